@@ -1,0 +1,26 @@
+-- `print::sample_power` meets its contract: the zeros against 12. Assumes nothing.
+use mathlib.Core.Path.{_∙_}
+use Rattle.signed.proofs.Machine.{rd-at}
+use Rattle.print.proofs.Writing.{power-below, power-above}
+use borrow.Author.Needs.{needs}
+use Rattle.print.proofs.sample_power.Statement.{statement}
+use Rattle.print.proofs.sample_power.Tie as tie
+
+sub-with-sign : tie.Need-sub-with-sign
+sub-with-sign c = search needs
+
+with-sign-requires : tie.Need-with-sign-requires
+with-sign-requires c κs = search needs
+
+returns : tie.Need-returns
+returns c = rd-at _ (c .with-sign .ok) ∙ c .with-sign .ensures ∙ power-below _ (c .before .if1 .taken)
+
+with-sign-requires-2 : tie.Need-with-sign-requires-2
+with-sign-requires-2 c κs = search needs
+
+returns-2 : tie.Need-returns-2
+returns-2 c = rd-at _ (c .with-sign2 .ok) ∙ c .with-sign2 .ensures ∙ power-above _ (c .before .if1 .left) (c .before .before .pre)
+
+pub sample-power-spec : {M : Type 1} → statement M
+sample-power-spec =
+    tie.close (tie.spec sub-with-sign with-sign-requires returns with-sign-requires-2 returns-2)

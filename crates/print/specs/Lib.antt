@@ -1,0 +1,2 @@
+-- What must be believed of printed numbers.
+pub mod Printed

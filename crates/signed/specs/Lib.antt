@@ -1,0 +1,2 @@
+-- What must be believed of signed numbers.
+pub mod Signed

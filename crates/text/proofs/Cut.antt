@@ -1,0 +1,258 @@
+-- What a caller learns of next_line, next_field and trim: the first line and the first field cut off, a text trimmed. Assumes nothing.
+use Prim.Native.Nat.{ℕ, suc, _+_, _-_, _≤_, _<_}
+use mathlib.Core.Bool.{Bool, true, false, cond, _&&_, true≢false}
+use mathlib.Core.List.{List, [], _∷_}
+use mathlib.Core.Path.{_≡_, refl, sym, ap, _∙_}
+use native.Mathlib.Omega.{arith}
+use lib.Dec.{eqb}
+use lib.ListN.{length, take, drop, length-drop, drop-of-length-le}
+use lib.Seq.{drop-drop}
+use Rattle.text.specs.Lines.{startsLF, onto, linesOf, bareLen, passLen, lineAt}
+use Rattle.text.specs.Marks.{isBlank}
+use Rattle.text.specs.Fields.{endsField, fieldsOf, blankLen, bodyLen, trimmed, wordLen, skipped, fieldAt, trimmedAt}
+use Rattle.text.specs.declared.Line.{Line}
+use Rattle.text.specs.declared.Part.{Part}
+
+add-sub-left : (a b : ℕ) → a + b - a ≡ b
+add-sub-left a b = omega arith
+
+-- ---- lines
+abbrev first : List ℕ → List (List ℕ)
+first s = take (bareLen s) s ∷ linesOf (drop (passLen s) s)
+
+feed : (s : List ℕ) → startsLF s ≡ true → linesOf s ≡ [] ∷ linesOf (drop (passLen s) s)
+unfolding startsLF linesOf passLen
+feed [] e = absurd (true≢false (sym e))
+feed (c ∷ s) e = rw e
+
+cut : (c : ℕ) (s : List ℕ) → onto c (linesOf s) ≡ (c ∷ take (bareLen s) s) ∷ linesOf (drop (passLen s) s) → linesOf (c ∷ s) ≡ first (c ∷ s)
+unfolding linesOf bareLen passLen
+cut c s m = go (eqb c 10)
+  where
+    right : (x y : Bool) → x && y ≡ true → y ≡ true
+    right true y e = e
+    right false y e = absurd (true≢false (sym e))
+
+    inner : (b : Bool) → eqb c 13 && startsLF s ≡ b
+        → cond b (linesOf s) (onto c (linesOf s)) ≡ take (cond b 0 (suc (bareLen s))) (c ∷ s) ∷ linesOf (drop (suc (passLen s)) (c ∷ s))
+    inner true e = feed s (right (eqb c 13) (startsLF s) e)
+    inner false e = m
+
+    go : (b : Bool)
+        → cond b ([] ∷ linesOf s) (cond (eqb c 13 && startsLF s) (linesOf s) (onto c (linesOf s)))
+        ≡ take (cond b 0 (cond (eqb c 13 && startsLF s) 0 (suc (bareLen s)))) (c ∷ s) ∷ linesOf (drop (cond b 1 (suc (passLen s))) (c ∷ s))
+    go true = refl
+    go false = inner (eqb c 13 && startsLF s) refl
+
+nothing : (c : ℕ) → onto c (linesOf []) ≡ (c ∷ take (bareLen []) []) ∷ linesOf (drop (passLen []) [])
+unfolding linesOf bareLen passLen onto
+nothing c = refl
+
+onto-first : (c : ℕ) (s : List ℕ) (l : List ℕ) (ls : List (List ℕ)) → linesOf s ≡ l ∷ ls → onto c (linesOf s) ≡ (c ∷ l) ∷ ls
+unfolding onto
+onto-first c s l ls e = rw e
+
+lines-cut : (c : ℕ) (s : List ℕ) → linesOf (c ∷ s) ≡ first (c ∷ s)
+lines-cut c [] = cut c [] (nothing c)
+lines-cut c (d ∷ s) = cut c (d ∷ s) (onto-first c (d ∷ s) _ _ (lines-cut d s))
+
+bare-le : (s : List ℕ) → bareLen s ≤ passLen s
+unfolding bareLen passLen
+bare-le [] = omega arith
+bare-le (c ∷ s) = go (eqb c 10) (eqb c 13 && startsLF s) (bare-le s)
+  where
+    go : (b d : Bool) → bareLen s ≤ passLen s → cond b 0 (cond d 0 (suc (bareLen s))) ≤ cond b 1 (suc (passLen s))
+    go true d h = omega arith
+    go false true h = omega arith
+    go false false h = omega arith
+
+pass-le : (s : List ℕ) → passLen s ≤ length s
+unfolding passLen
+pass-le [] = omega arith
+pass-le (c ∷ s) = go (eqb c 10) (pass-le s)
+  where
+    go : (b : Bool) → passLen s ≤ length s → cond b 1 (suc (passLen s)) ≤ suc (length s)
+    go true h = omega arith
+    go false h = omega arith
+
+pass-some : (c : ℕ) (s : List ℕ) → 1 ≤ passLen (c ∷ s)
+unfolding passLen
+pass-some c s = go (eqb c 10)
+  where
+    go : (b : Bool) → 1 ≤ cond b 1 (suc (passLen s))
+    go true = omega arith
+    go false = omega arith
+
+-- the line at a place, and that the rest is further on
+pub record LineAt (text : List ℕ) (at : ℕ) (r : Line) : Type 0 where
+  pub ordered : at ≤ r .stop
+  pub within : r .stop ≤ length text
+  pub further : at < r .next
+  pub inside : r .next ≤ length text
+  pub line : linesOf (drop at text) ≡ take (r .stop - at) (drop at text) ∷ linesOf (drop (r .next) text)
+
+pub line-at : (text : List ℕ) (at : ℕ) (r : Line) → r ≡ lineAt text at → at < length text → LineAt text at r
+unfolding lineAt
+line-at text at r p h = go (drop at text) refl (length-drop at text)
+  where
+    go : (s : List ℕ) → drop at text ≡ s → length s ≡ length text - at → LineAt text at r
+    go [] e l = absurd (omega arith)
+    go (c ∷ s) e l =
+        let b : r .stop ≡ at + bareLen (c ∷ s) = ap (λ (x : Line). x .stop) p ∙ ap (λ (x : List ℕ). at + bareLen x) e in
+        let n : r .next ≡ at + passLen (c ∷ s) = ap (λ (x : Line). x .next) p ∙ ap (λ (x : List ℕ). at + passLen x) e in
+        let u = bare-le (c ∷ s) in
+        let v = pass-le (c ∷ s) in
+        let w = pass-some c s in
+        record {
+          ordered = omega arith;
+          within = omega arith;
+          further = omega arith;
+          inside = omega arith;
+          line = rw (e, b, add-sub-left, n, ← drop-drop, e) (lines-cut c s);
+        }
+
+-- ---- fields
+fields-skip : (s : List ℕ) → fieldsOf s ≡ fieldsOf (drop (blankLen s) s)
+unfolding fieldsOf blankLen
+fields-skip [] = refl
+fields-skip (c ∷ s) = go (isBlank c) refl (fields-skip s)
+  where
+    go : (b : Bool) → isBlank c ≡ b → fieldsOf s ≡ fieldsOf (drop (blankLen s) s) → fieldsOf (c ∷ s) ≡ fieldsOf (drop (cond b (suc (blankLen s)) 0) (c ∷ s))
+    go true e r = rw e r
+    go false e r = refl
+
+fields-cut : (c : ℕ) (s : List ℕ) → isBlank c ≡ false → fieldsOf (c ∷ s) ≡ take (wordLen (c ∷ s)) (c ∷ s) ∷ fieldsOf (drop (wordLen (c ∷ s)) (c ∷ s))
+unfolding fieldsOf wordLen endsField onto
+fields-cut c [] e = rw e
+fields-cut c (d ∷ s) e = rw e (go (isBlank d) refl (λ f. fields-cut d s f))
+  where
+    go : (b : Bool) → isBlank d ≡ b → (isBlank d ≡ false → fieldsOf (d ∷ s) ≡ take (wordLen (d ∷ s)) (d ∷ s) ∷ fieldsOf (drop (wordLen (d ∷ s)) (d ∷ s)))
+        → cond b ((c ∷ []) ∷ fieldsOf (d ∷ s)) (onto c (fieldsOf (d ∷ s)))
+        ≡ (c ∷ take (cond b 0 (suc (wordLen s))) (d ∷ s)) ∷ fieldsOf (drop (cond b 0 (suc (wordLen s))) (d ∷ s))
+    go true f r = refl
+    go false f r = rw (r f, f)
+
+blank-le : (s : List ℕ) → blankLen s ≤ length s
+unfolding blankLen
+blank-le [] = omega arith
+blank-le (c ∷ s) = go (isBlank c) (blank-le s)
+  where
+    go : (b : Bool) → blankLen s ≤ length s → cond b (suc (blankLen s)) 0 ≤ suc (length s)
+    go true h = omega arith
+    go false h = omega arith
+
+word-le : (s : List ℕ) → wordLen s ≤ length s
+unfolding wordLen
+word-le [] = omega arith
+word-le (c ∷ s) = go (isBlank c) (word-le s)
+  where
+    go : (b : Bool) → wordLen s ≤ length s → cond b 0 (suc (wordLen s)) ≤ suc (length s)
+    go true h = omega arith
+    go false h = omega arith
+
+word-some : (c : ℕ) (s : List ℕ) → isBlank c ≡ false → 1 ≤ wordLen (c ∷ s)
+unfolding wordLen
+word-some c s e = rw e (omega arith)
+
+-- where the blanks end there is no blank, or nothing is left
+blank-ends : (s : List ℕ) (c : ℕ) (t : List ℕ) → drop (blankLen s) s ≡ c ∷ t → isBlank c ≡ false
+unfolding blankLen
+blank-ends [] c t e = absurd (let z : _≡_ {A = ℕ} 0 1 = cc in omega arith)
+blank-ends (d ∷ s) c t e = go (isBlank d) refl (blank-ends s c t) e
+  where
+    go : (b : Bool) → isBlank d ≡ b → (drop (blankLen s) s ≡ c ∷ t → isBlank c ≡ false) → drop (cond b (suc (blankLen s)) 0) (d ∷ s) ≡ c ∷ t → isBlank c ≡ false
+    go true f r e = r e
+    go false f r e = let g : d ≡ c = cc in rw (← g) f
+
+-- the place behind the blanks
+module _ (line : List ℕ) (at : ℕ) where
+  pub skip-later : at ≤ skipped line at
+  unfolding skipped
+  skip-later = omega arith
+
+  pub skip-within : at ≤ length line → skipped line at ≤ length line
+  unfolding skipped
+  skip-within h = let l = length-drop at line in let b = blank-le (drop at line) in omega arith
+
+  pub skip-drop : drop (blankLen (drop at line)) (drop at line) ≡ drop (skipped line at) line
+  unfolding skipped
+  skip-drop = rw drop-drop
+
+  pub skip-ends : (c : ℕ) (t : List ℕ) → drop (skipped line at) line ≡ c ∷ t → isBlank c ≡ false
+  skip-ends c t e = blank-ends (drop at line) c t (skip-drop ∙ e)
+
+  pub skip-fields : fieldsOf (drop at line) ≡ fieldsOf (drop (skipped line at) line)
+  skip-fields = fields-skip (drop at line) ∙ ap fieldsOf skip-drop
+
+-- the first field from a place on
+pub record FieldAt (line : List ℕ) (at : ℕ) (r : Part) : Type 0 where
+  pub later : at ≤ r .start
+  pub some : r .start < r .stop
+  pub ordered : r .start ≤ r .stop
+  pub within : r .stop ≤ length line
+  pub field : fieldsOf (drop at line) ≡ take (r .stop - r .start) (drop (r .start) line) ∷ fieldsOf (drop (r .stop) line)
+
+module _ (line : List ℕ) (at : ℕ) (r : Part) (p : r ≡ fieldAt line at) where
+  starts : r .start ≡ skipped line at
+  unfolding fieldAt
+  starts = ap (λ (x : Part). x .start) p
+
+  stops : r .stop ≡ r .start + wordLen (drop (r .start) line)
+  unfolding fieldAt
+  stops = ap (λ (x : Part). x .stop) p ∙ rw starts
+
+  pub no-field : length line ≤ r .start → fieldsOf (drop at line) ≡ []
+  unfolding fieldsOf
+  no-field h = skip-fields line at ∙ rw (← starts, drop-of-length-le line h)
+
+  pub field-at : r .start < length line → FieldAt line at r
+  field-at h = go (drop (r .start) line) refl (length-drop (r .start) line)
+    where
+      go : (s : List ℕ) → drop (r .start) line ≡ s → length s ≡ length line - r .start → FieldAt line at r
+      go [] e l = absurd (omega arith)
+      go (c ∷ s) e l =
+          let n : r .stop ≡ r .start + wordLen (c ∷ s) = stops ∙ ap (λ (x : List ℕ). r .start + wordLen x) e in
+          let f : isBlank c ≡ false = skip-ends line at c s (rw (← starts) e) in
+          let w = word-le (c ∷ s) in
+          let v = word-some c s f in
+          let u = skip-later line at in
+          let b = starts in
+          record {
+            later = omega arith;
+            some = omega arith;
+            ordered = omega arith;
+            within = omega arith;
+            field = skip-fields line at ∙ rw (← starts, e, n, add-sub-left, ← drop-drop, e) (fields-cut c s f);
+          }
+
+-- ---- trimmed
+body-le : (s : List ℕ) → bodyLen s ≤ length s
+unfolding bodyLen
+body-le [] = omega arith
+body-le (c ∷ s) = go (isBlank c && eqb (bodyLen s) 0) (body-le s)
+  where
+    go : (b : Bool) → bodyLen s ≤ length s → cond b 0 (suc (bodyLen s)) ≤ suc (length s)
+    go true h = omega arith
+    go false h = omega arith
+
+-- what stands from a place on, trimmed
+pub record TrimAt (line : List ℕ) (at : ℕ) (r : Part) : Type 0 where
+  pub later : at ≤ r .start
+  pub ordered : r .start ≤ r .stop
+  pub within : at ≤ length line → r .stop ≤ length line
+  pub text : take (r .stop - r .start) (drop (r .start) line) ≡ trimmed (drop at line)
+
+pub trim-at : (line : List ℕ) (at : ℕ) (r : Part) → r ≡ trimmedAt line at → TrimAt line at r
+unfolding trimmedAt trimmed
+trim-at line at r p =
+    let b : r .start ≡ skipped line at = ap (λ (x : Part). x .start) p in
+    let e : r .stop ≡ skipped line at + bodyLen (drop (skipped line at) line) = ap (λ (x : Part). x .stop) p in
+    let u = skip-later line at in
+    let l = length-drop (skipped line at) line in
+    let w = body-le (drop (skipped line at) line) in
+    record {
+      later = omega arith;
+      ordered = omega arith;
+      within = λ (h : at ≤ length line). omega (arith, skip-within line at h);
+      text = rw (e, b, add-sub-left, skip-drop line at);
+    }

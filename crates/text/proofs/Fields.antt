@@ -1,0 +1,64 @@
+-- Words with blanks between them are read as those words. Assumes nothing.
+use Prim.Native.Nat.{ℕ}
+use mathlib.Core.Bool.{Bool, true, false, _||_, true≢false}
+use mathlib.Core.List.{List, [], _∷_, _++_, append-nil}
+use mathlib.Core.Path.{_≡_, refl, sym, ap, _∙_}
+use lib.Dec.{leb}
+use lib.ListN.{length}
+use Rattle.text.specs.Lines.{onto}
+use Rattle.text.specs.Marks.{isBlank}
+use Rattle.text.specs.Fields.{endsField, fieldsOf}
+use Rattle.text.proofs.Lines.{or-left, or-right}
+
+unfoldable pub hasBlank : List ℕ → Bool
+hasBlank [] = false
+hasBlank (c ∷ s) = isBlank c || hasBlank s
+
+pub record Word (w : List ℕ) : Type 0 where
+  pub some : leb 1 (length w) ≡ true
+  pub solid : hasBlank w ≡ false
+
+pub data AllWords : List (List ℕ) → Type 0 where
+  none-left : AllWords []
+  one-more : {w : List ℕ} {ws : List (List ℕ)} → Word w → AllWords ws → AllWords (w ∷ ws)
+
+-- the words with a space between each two
+unfoldable pub joined : List (List ℕ) → List ℕ
+joined [] = []
+joined (w ∷ []) = w
+joined (w ∷ v ∷ ws) = w ++ 32 ∷ joined (v ∷ ws)
+
+-- ---- one word
+module _ (rest : List ℕ) (f : endsField rest ≡ true) where
+  word-from : (c : ℕ) (w : List ℕ) → hasBlank (c ∷ w) ≡ false → fieldsOf ((c ∷ w) ++ rest) ≡ (c ∷ w) ∷ fieldsOf rest
+  unfolding hasBlank fieldsOf endsField onto
+  word-from c [] e = rw (or-left (isBlank c) false e, f)
+  word-from c (d ∷ w) e =
+      let g : hasBlank (d ∷ w) ≡ false = or-right (isBlank c) (hasBlank (d ∷ w)) e in
+      rw (word-from d w g, or-left (isBlank c) (hasBlank (d ∷ w)) e, or-left (isBlank d) (hasBlank w) g)
+
+  some-word : (w : List ℕ) → leb 1 (length w) ≡ true → hasBlank w ≡ false → fieldsOf (w ++ rest) ≡ w ∷ fieldsOf rest
+  some-word [] h e = absurd (true≢false (sym h))
+  some-word (c ∷ w) h e = word-from c w e
+
+  pub fields-then : {w : List ℕ} → Word w → fieldsOf (w ++ rest) ≡ w ∷ fieldsOf rest
+  fields-then {w} p = some-word w (p .some) (p .solid)
+
+pub fields-word : {w : List ℕ} (rest : List ℕ) → Word w → fieldsOf (w ++ 32 ∷ rest) ≡ w ∷ fieldsOf rest
+unfolding endsField fieldsOf isBlank
+fields-word rest p = fields-then (32 ∷ rest) refl p
+
+pub fields-last : {w : List ℕ} → Word w → fieldsOf w ≡ w ∷ []
+unfolding endsField fieldsOf
+fields-last {w} p = ap fieldsOf (sym (append-nil w)) ∙ fields-then [] refl p
+
+-- ---- the law
+joined-more : {w : List ℕ} (ws : List (List ℕ)) → Word w → fieldsOf (joined ws) ≡ ws → fieldsOf (joined (w ∷ ws)) ≡ w ∷ ws
+unfolding joined
+joined-more [] p e = fields-last p
+joined-more {w} (v ∷ ws) p e = fields-word (joined (v ∷ ws)) p ∙ ap (λ (r : List (List ℕ)). w ∷ r) e
+
+pub fields-joined : {ws : List (List ℕ)} → AllWords ws → fieldsOf (joined ws) ≡ ws
+unfolding joined fieldsOf
+fields-joined none-left = refl
+fields-joined (one-more {w} {ws} p q) = joined-more ws p (fields-joined q)

@@ -1,0 +1,177 @@
+-- What a turn of a loop does: the definitions at `drop i text`, one byte at a time. Assumes nothing.
+use Prim.Native.Nat.{ℕ, zero, suc, _+_, _≤_, _<_}
+use mathlib.Core.Bool.{Bool, true, false, cond, _&&_, true≢false}
+use mathlib.Core.List.{List, [], _∷_}
+use mathlib.Core.Path.{_≡_, refl, sym, _∙_}
+use native.Mathlib.Nat.{add-zero}
+use native.Mathlib.Numerals.{add-one}
+use native.Mathlib.Omega.{arith}
+use borrow.Author.Tests.{eq-eqb, ne-eqb, eqb-true}
+use lib.Dec.{eqb}
+use lib.ListN.{length, getD, drop, drop-of-length-le}
+use lib.Seq.{drop-cons}
+use Rattle.text.specs.Lines.{startsLF, bareLen, passLen, lineAt}
+use Rattle.text.specs.Marks.{isBlank, isControl, anyControl}
+use Rattle.text.specs.Fields.{blankLen, wordLen, bodyLen, skipped, fieldAt, trimmedAt}
+use Rattle.text.specs.declared.Line.{Line}
+use Rattle.text.specs.declared.Part.{Part}
+
+-- ---- lines
+-- a CR before an LF
+pass-return : (s : List ℕ) → startsLF s ≡ true → passLen s ≡ 1
+unfolding startsLF passLen
+pass-return [] e = absurd (true≢false (sym e))
+pass-return (c ∷ s) e = rw e
+
+line-is : (text : List ℕ) (at stop next : ℕ) → stop ≡ at + bareLen (drop at text) → next ≡ at + passLen (drop at text) → _≡_ {A = Line} (record { stop = stop; next = next }) (lineAt text at)
+unfolding lineAt
+line-is text at stop next p q = rw (p, q)
+
+module _ (text : List ℕ) (i : ℕ) where
+  pub feed-none : length text ≤ i → startsLF (drop i text) ≡ false
+  unfolding startsLF
+  feed-none h = rw (drop-of-length-le text h)
+
+  pub feed-at : i < length text → startsLF (drop i text) ≡ eqb (getD text i 0) 10
+  unfolding startsLF
+  feed-at h = rw (drop-cons text i 0)
+
+  pub line-none : length text ≤ i → _≡_ {A = Line} (record { stop = i; next = i }) (lineAt text i)
+  unfolding bareLen passLen
+  line-none h = line-is text i i i (rw (drop-of-length-le text h, add-zero)) (rw (drop-of-length-le text h, add-zero))
+
+  module _ (h : i < length text) where
+    pub line-feed : getD text i 0 ≡ 10 → _≡_ {A = Line} (record { stop = i; next = i + 1 }) (lineAt text i)
+    unfolding bareLen passLen
+    line-feed e = line-is text i i (i + 1) (rw (drop-cons text i 0, eq-eqb _ _ e, add-zero)) (rw (drop-cons text i 0, eq-eqb _ _ e))
+
+    module _ (n : getD text i 0 ≡ 10 → ⊥) where
+      bare-more : eqb (getD text i 0) 13 && startsLF (drop (i + 1) text) ≡ false → bareLen (drop i text) ≡ suc (bareLen (drop (i + 1) text))
+      unfolding bareLen
+      bare-more e = rw (add-one i, drop-cons text i 0, ne-eqb _ _ n, rw (add-one i) at e)
+
+      bare-return : getD text i 0 ≡ 13 → startsLF (drop (i + 1) text) ≡ true → bareLen (drop i text) ≡ 0
+      unfolding bareLen
+      bare-return e f = rw (drop-cons text i 0, ne-eqb _ _ n, eq-eqb _ _ e, ← add-one i, f)
+
+      pass-more : passLen (drop i text) ≡ suc (passLen (drop (i + 1) text))
+      unfolding passLen
+      pass-more = rw (add-one, drop-cons text i 0, ne-eqb _ _ n)
+
+      pub line-return : getD text i 0 ≡ 13 → startsLF (drop (i + 1) text) ≡ true → _≡_ {A = Line} (record { stop = i; next = i + 2 }) (lineAt text i)
+      line-return e f =
+          let b = bare-return e f in
+          let p = pass-return (drop (i + 1) text) f in
+          let q = pass-more in
+          line-is text i i (i + 2) (omega arith) (omega arith)
+
+      pub line-more : eqb (getD text i 0) 13 && startsLF (drop (i + 1) text) ≡ false → lineAt text (i + 1) ≡ lineAt text i
+      unfolding lineAt
+      line-more e =
+          let b = bare-more e in
+          let q = pass-more in
+          line-is text i (i + 1 + bareLen (drop (i + 1) text)) (i + 1 + passLen (drop (i + 1) text)) (omega arith) (omega arith)
+
+-- an LF stands inside the text
+pub feed-inside : (text : List ℕ) (i : ℕ) → startsLF (drop i text) ≡ true → i < length text
+unfolding startsLF
+feed-inside [] zero e = absurd (true≢false (sym e))
+feed-inside [] (suc i) e = absurd (true≢false (sym e))
+feed-inside (c ∷ s) zero e = omega arith
+feed-inside (c ∷ s) (suc i) e = let h = feed-inside s i e in omega arith
+
+-- ---- blanks, and bytes that no line may hold
+module _ (line : List ℕ) (i : ℕ) where
+  pub skip-none : length line ≤ i → i ≡ skipped line i
+  unfolding skipped blankLen
+  skip-none h = rw (drop-of-length-le line h, add-zero)
+
+  pub control-none : length line ≤ i → anyControl (drop i line) ≡ false
+  unfolding anyControl
+  control-none h = rw (drop-of-length-le line h)
+
+  module _ (h : i < length line) where
+    pub skip-stop : isBlank (getD line i 0) ≡ false → i ≡ skipped line i
+    unfolding skipped blankLen
+    skip-stop e = rw (drop-cons line i 0, e, add-zero)
+
+    blank-more : isBlank (getD line i 0) ≡ true → blankLen (drop i line) ≡ suc (blankLen (drop (i + 1) line))
+    unfolding blankLen
+    blank-more e = rw (add-one i, drop-cons line i 0, e)
+
+    pub skip-more : isBlank (getD line i 0) ≡ true → skipped line (i + 1) ≡ skipped line i
+    unfolding skipped
+    skip-more e = let b = blank-more e in omega arith
+
+    pub control-here : isControl (getD line i 0) ≡ true → anyControl (drop i line) ≡ true
+    unfolding anyControl
+    control-here e = rw (drop-cons line i 0, e)
+
+    pub control-more : isControl (getD line i 0) ≡ false → anyControl (drop i line) ≡ anyControl (drop (i + 1) line)
+    unfolding anyControl
+    control-more e = rw (add-one i, drop-cons line i 0, e)
+
+-- ---- a field: where the word at a place ends
+unfoldable pub wordEnd : List ℕ → ℕ → ℕ
+wordEnd line i = i + wordLen (drop i line)
+
+pub field-is : (line : List ℕ) (at start stop : ℕ) → start ≡ skipped line at → stop ≡ wordEnd line start → _≡_ {A = Part} (record { start = start; stop = stop }) (fieldAt line at)
+unfolding fieldAt wordEnd
+field-is line at start stop p q = rw (q, p)
+
+module _ (line : List ℕ) (i : ℕ) where
+  pub word-none : length line ≤ i → i ≡ wordEnd line i
+  unfolding wordEnd wordLen
+  word-none h = rw (drop-of-length-le line h, add-zero)
+
+  module _ (h : i < length line) where
+    pub word-stop : isBlank (getD line i 0) ≡ true → i ≡ wordEnd line i
+    unfolding wordEnd wordLen
+    word-stop e = rw (drop-cons line i 0, e, add-zero)
+
+    word-step : isBlank (getD line i 0) ≡ false → wordLen (drop i line) ≡ suc (wordLen (drop (i + 1) line))
+    unfolding wordLen
+    word-step e = rw (add-one i, drop-cons line i 0, e)
+
+    pub word-more : isBlank (getD line i 0) ≡ false → wordEnd line (i + 1) ≡ wordEnd line i
+    unfolding wordEnd
+    word-more e = let b = word-step e in omega arith
+
+-- ---- trimming: where the text ends, once it is known to go on to `stop` and is looked at from i on
+unfoldable pub bodyEnd : List ℕ → ℕ → ℕ → ℕ
+bodyEnd line stop i = cond (eqb (bodyLen (drop i line)) 0) stop (i + bodyLen (drop i line))
+
+pub body-start : (line : List ℕ) (i : ℕ) → bodyEnd line i i ≡ i + bodyLen (drop i line)
+unfolding bodyEnd
+body-start line i = go (eqb (bodyLen (drop i line)) 0) refl
+  where
+    go : (b : Bool) → eqb (bodyLen (drop i line)) 0 ≡ b → cond b i (i + bodyLen (drop i line)) ≡ i + bodyLen (drop i line)
+    go true e = let z = eqb-true (bodyLen (drop i line)) 0 e in omega arith
+    go false e = refl
+
+pub trim-is : (line : List ℕ) (at start stop : ℕ) → start ≡ skipped line at → stop ≡ bodyEnd line start start → _≡_ {A = Part} (record { start = start; stop = stop }) (trimmedAt line at)
+unfolding trimmedAt
+trim-is line at start stop p q = rw (q, body-start line start, p)
+
+module _ (line : List ℕ) (stop i : ℕ) where
+  pub body-end : length line ≤ i → stop ≡ bodyEnd line stop i
+  unfolding bodyEnd bodyLen
+  body-end h = rw (drop-of-length-le line h)
+
+  module _ (h : i < length line) where
+    body-step : (b : Bool) → isBlank (getD line i 0) ≡ b
+        → bodyLen (drop i line) ≡ cond (b && eqb (bodyLen (drop (i + 1) line)) 0) 0 (suc (bodyLen (drop (i + 1) line)))
+    unfolding bodyLen
+    body-step b e = rw (drop-cons line i 0, e, add-one i)
+
+    pub body-byte : isBlank (getD line i 0) ≡ false → bodyEnd line (i + 1) (i + 1) ≡ bodyEnd line stop i
+    unfolding bodyEnd
+    body-byte e = body-start line (i + 1) ∙ rw (body-step false e, ne-eqb (suc (bodyLen (drop (i + 1) line))) 0 (λ p. omega arith)) (omega arith)
+
+    pub body-blank : isBlank (getD line i 0) ≡ true → bodyEnd line stop (i + 1) ≡ bodyEnd line stop i
+    unfolding bodyEnd
+    body-blank e = rw (body-step true e) (go (bodyLen (drop (i + 1) line)))
+      where
+        go : (n : ℕ) → cond (eqb n 0) stop (i + 1 + n) ≡ cond (eqb (cond (eqb n 0) 0 (suc n)) 0) stop (i + cond (eqb n 0) 0 (suc n))
+        go zero = refl
+        go (suc n) = rw (ne-eqb (suc n) 0 (λ p. omega arith), ne-eqb (suc (suc n)) 0 (λ p. omega arith)) (omega arith)

@@ -1,0 +1,3 @@
+-- The laws of times, for callers.
+pub mod Exact
+pub mod Examples

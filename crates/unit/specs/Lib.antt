@@ -1,0 +1,2 @@
+-- What must be believed of times.
+pub mod Time
