@@ -1,10 +1,11 @@
 -- The answers of the functions that make or take signed numbers, in the words of the definitions. Assumes nothing.
-use Prim.Native.Nat.{ℕ, suc, _+_, _*_, _-_, _^_, _≤_, _<_, min}
+use Prim.Native.Nat.{ℕ, suc, _+_, _*_, _-_, _^_, _≤_, _<_, min, _/_, _%_}
 use mathlib.Core.List.{List, [], _∷_}
-use mathlib.Core.Bool.{Bool, true, false, not}
+use mathlib.Core.Bool.{Bool, true, false, not, cond}
 use mathlib.Core.Path.{_≡_, ap, _∙_, sym}
 use native.Mathlib.Omega.{arith}
 use borrow.Author.Tests.{le-leb, lt-leb, eq-eqb, ne-eqb}
+use lib.Dec.{eqb}
 use lib.IntN.{ℤ, pos, negsuc, natAbs, subℕ, _+ℤ_}
 use lib.ListN.{length, drop}
 use Rattle.signed.specs.Signed.{isNegative, signedOf, sameZ, largest}
@@ -21,7 +22,8 @@ use Rattle.numeral.specs.declared.Natural.the-variants.{Value as Natural
 use Rattle.numeral.specs.declared.Number.the-variants.{Value, Bad}
 use Rattle.numeral.specs.declared.Shift.the-variants.{Up, Down}
 use Rattle.numeral.specs.declared.Signed.the-variants.{Value as SignedValue, Bad as SignedBad}
-use Rattle.numeral.proofs.Integer.{integer-inv, value-below, range-inv}
+use Rattle.text.proofs.Cases.{cond-yes}
+use Rattle.numeral.proofs.Integer.{not-bad, integer-inv, value-below, range-inv}
 use Rattle.numeral.proofs.Scaling.{downOf}
 
 -- a size that an i64 holds is not cut
@@ -172,3 +174,22 @@ module _ (d : Decimal) (negative : Bool) (s : negative ≡ isNegative (d .mantis
   pub round-down : shiftOf (d .exponent +ℤ pos 12) ≡ Down k → signedAs negative (inRange 0 200000000000000000 (nearest n (10 ^ k))) ≡ roundedOf d
   unfolding roundedOf
   round-down e = rw (s, p, down-round (natAbs (d .mantissa)) k (d .exponent +ℤ pos 12) e)
+
+-- what there is of a whole worth is in the range
+at-range : (low high n : ℕ) (x : ℤ) (m : ℕ) → wholeAt low high n x ≡ NaturalValue m → m ≤ high
+unfolding wholeAt
+at-range low high n (pos k) m e = let r = range-inv low high (n * 10 ^ k) m e in let a = r .same in let b = r .most in omega arith
+at-range low high n (negsuc k) m e =
+    let c = cond-yes (eqb (n % 10 ^ suc k) 0) (inRange low high (n / 10 ^ suc k)) (not-bad m) e in
+    let r = range-inv low high (n / 10 ^ suc k) m (c .1) in
+    let a = r .same in
+    let b = r .most in
+    omega arith
+
+pub whole-most : (d : Decimal) (shift low high m : ℕ) → wholeOf d shift low high ≡ NaturalValue m → m ≤ high
+unfolding wholeOf
+whole-most d shift low high m e = go (isNegative (d .mantissa)) e
+  where
+    go : (b : Bool) → cond b NaturalBad (wholeAt low high (natAbs (d .mantissa)) (d .exponent +ℤ pos shift)) ≡ NaturalValue m → m ≤ high
+    go true q = absurd (not-bad m q)
+    go false q = at-range low high (natAbs (d .mantissa)) (d .exponent +ℤ pos shift) m q

@@ -48,11 +48,11 @@ counter-back most z h m =
 
 -- ---- Decimals
 module _ (negative : Bool) (n : ℕ) (e : ℤ) where
-  unsigned-form : natAbs e ≤ 99 → isUnsigned (digitsOf n ++ powerText e) ≡ true
+  pub unsigned-form : natAbs e ≤ 99 → isUnsigned (digitsOf n ++ powerText e) ≡ true
   unfolding isUnsigned
   unsigned-form h = rw (mantissa-cut n e, exponent-cut n e, mantissa-yes (digitsOf n) (digits-all n) (digits-some n)) (power-form e h)
 
-  kept-back : keptOf negative (digitsOf n ++ powerText e) ≡ kept negative n e
+  pub kept-back : keptOf negative (digitsOf n ++ powerText e) ≡ kept negative n e
   unfolding keptOf
   kept-back =
       rw (mantissa-cut n e, exponent-cut n e, power-worth e, digits-are (digitsOf n) (digits-all n), fraction-none (digitsOf n) (digits-all n), digits-value n, +ℤ-idr e)

@@ -8,4 +8,5 @@ pub mod Fields
 pub mod Words
 pub mod Over
 pub mod Visible
+pub mod Clear
 pub mod Examples

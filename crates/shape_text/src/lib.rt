@@ -1,0 +1,202 @@
+// Shapes: samples written as the stored lines of one, in the form its edition has.
+ghost use mathlib.Core.Path.{_≡_};
+ghost use mathlib.Core.List.{[], _∷_};
+ghost use mathlib.Core.Bool.{true};
+ghost use Prim.Native.Nat.{_-_, _<_};
+ghost use lib.ListN.{length};
+ghost use Rattle.text.specs.Over.{Put, clearedFrom};
+ghost use Rattle.print.specs.Printed.{sampleText};
+ghost use Rattle.shape_text.specs.Written.{isPlainText, endedLines, runLines, plainLines, packedLines, textOf, allWithin, isWritable, Writing};
+ghost use Rattle.shape_text.specs.Inside.{stepAt, RunAt};
+use shape::Edition;
+use signed::Sum;
+
+// What writing answers: the length of the text, or the refusal SHAPE or OUTPUT.
+pub enum Written {
+    Text(usize),
+    Shape,
+    Output,
+}
+
+// Is every sample within ±100,000?
+fn all_within(samples: &[i64]) -> bool
+    ensures { λ r. ⌜ r ≡ allWithin (now (samples .entry)) ⌝ }
+{
+    let mut i = 0;
+    while i < samples.len() {
+        let z = samples[i];
+        if 100000000000000000 < signed::size(z) {
+            return false;
+        }
+        i += 1;
+    }
+    true
+}
+
+// May these samples be written?
+fn is_writable(samples: &[i64]) -> bool
+    ensures { λ r. ⌜ r ≡ isWritable (now (samples .entry)) ⌝ }
+{
+    if samples.len() == 0 {
+        return false;
+    }
+    if 1000000 < samples.len() {
+        return false;
+    }
+    all_within(samples)
+}
+
+// How far the sample at i is from the one before it; the first from 0.
+fn step(samples: &[i64], i: usize) -> i64
+    requires { ⌜ (allWithin (now samples) ≡ true) × (i < length (now samples)) ⌝ }
+    ensures { λ r. ⌜ r ≡ stepAt (now (samples .entry)) i ⌝ }
+{
+    let z = samples[i];
+    if i == 0 {
+        return z;
+    }
+    let before = samples[i - 1];
+    match signed::minus(z, before, 200000000000000000) {
+        Sum::Value(d) => d,
+        Sum::Beyond => 0,
+    }
+}
+
+// The place behind the longest run of equal differences that starts at i.
+fn run_end(samples: &[i64], i: usize) -> usize
+    requires { ⌜ (allWithin (now samples) ≡ true) × (i < length (now samples)) ⌝ }
+    ensures { λ r. ⌜ RunAt (now (samples .entry)) i r ⌝ }
+{
+    let d = step(samples, i);
+    let mut j = i + 1;
+    while j < samples.len() {
+        if !signed::same(step(samples, j), d) {
+            return j;
+        }
+        j += 1;
+    }
+    j
+}
+
+// How many values the runs are written as: one for a value that stands alone, three for a run.
+fn packed_count(samples: &[i64]) -> usize
+    requires { ⌜ allWithin (now samples) ≡ true ⌝ }
+    ensures { λ r. ⌜ r ≡ length (packedLines (now (samples .entry))) ⌝ }
+{
+    let mut i = 0;
+    let mut n = 0;
+    while i < samples.len() {
+        let end = run_end(samples, i);
+        if end - i == 1 {
+            n += 1;
+        } else {
+            n += 3;
+        }
+        i = end;
+    }
+    n
+}
+
+// Are the samples written as they are?
+fn is_plain_text(edition: Edition, packed: usize, plain: usize) -> bool
+    ensures { λ r. ⌜ r ≡ isPlainText edition packed plain ⌝ }
+{
+    match edition {
+        Edition::V13 => false,
+        Edition::V14 => plain <= packed,
+    }
+}
+
+// Writes a value on a line of its own.
+fn put_value(out: &mut [u8], at: usize, z: i64) -> usize
+    ensures { λ r. ⌜ Put (now (out .entry)) at (endedLines (sampleText z ∷ [])) r (now (out .exit)) ⌝ }
+{
+    let next = print::put_sample(out, at, z);
+    text::put_byte(out, next, 10)
+}
+
+// Writes a run of n equal differences: the value, and for n of 2 and more the value again and n - 2.
+fn put_run(out: &mut [u8], at: usize, d: i64, n: usize) -> usize
+    requires { ⌜ 0 < n ⌝ }
+    ensures { λ r. ⌜ Put (now (out .entry)) at (endedLines (runLines d (n - 1))) r (now (out .exit)) ⌝ }
+{
+    let first = put_value(out, at, d);
+    if n == 1 {
+        return first;
+    }
+    let second = put_value(out, first, d);
+    let count = print::put_integer(out, second, (n - 2) as u64);
+    text::put_byte(out, count, 10)
+}
+
+// Writes every run of differences.
+fn put_packed(out: &mut [u8], samples: &[i64]) -> usize
+    requires { ⌜ allWithin (now samples) ≡ true ⌝ }
+    ensures { λ r. ⌜ Put (now (out .entry)) 0 (endedLines (packedLines (now (samples .entry)))) r (now (out .exit)) ⌝ }
+{
+    let mut at = 0;
+    let mut i = 0;
+    while i < samples.len() {
+        let end = run_end(samples, i);
+        at = put_run(out, at, step(samples, i), end - i);
+        i = end;
+    }
+    at
+}
+
+// Writes every sample as it is.
+fn put_plain(out: &mut [u8], samples: &[i64]) -> usize
+    ensures { λ r. ⌜ Put (now (out .entry)) 0 (endedLines (plainLines (now (samples .entry)))) r (now (out .exit)) ⌝ }
+{
+    let mut at = 0;
+    let mut i = 0;
+    while i < samples.len() {
+        let z = samples[i];
+        at = put_value(out, at, z);
+        i += 1;
+    }
+    at
+}
+
+// Writes the samples in the form that the edition has for them.
+fn put_shape(out: &mut [u8], samples: &[i64], edition: Edition) -> usize
+    requires { ⌜ allWithin (now samples) ≡ true ⌝ }
+    ensures { λ r. ⌜ Put (now (out .entry)) 0 (textOf edition (now (samples .entry))) r (now (out .exit)) ⌝ }
+{
+    if is_plain_text(edition, packed_count(samples), samples.len()) {
+        return put_plain(out, samples);
+    }
+    put_packed(out, samples)
+}
+
+// Zeros from a place on.
+fn clear_from(out: &mut [u8], from: usize)
+    ensures { λ r. ⌜ now (out .exit) ≡ clearedFrom 0 from (now (out .entry)) ⌝ }
+{
+    let mut i = from;
+    while i < out.len() {
+        out[i] = 0;
+        i += 1;
+    }
+}
+
+// Writes samples, given in steps of 10^-12, as stored lines. The lent output holds the text and then zeros; on a refusal, zeros.
+pub fn write(samples: &[i64], edition: Edition, out: &mut [u8]) -> Written
+    ensures { λ r. ⌜ Writing edition (now (samples .entry)) (now (out .entry)) r (now (out .exit)) ⌝ }
+{
+    if !is_writable(samples) {
+        clear_from(out, 0);
+        return Written::Shape;
+    }
+    let length = put_shape(out, samples, edition);
+    if out.len() < length {
+        clear_from(out, 0);
+        return Written::Output;
+    }
+    if 16777216 < length {
+        clear_from(out, 0);
+        return Written::Output;
+    }
+    clear_from(out, length);
+    Written::Text(length)
+}
