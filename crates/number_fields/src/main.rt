@@ -108,14 +108,6 @@ fn put_decimal(out: &mut [u8], at: usize, field: &[u8]) -> usize {
     }
 }
 
-// The first n bytes, or all where there are fewer.
-fn front(bytes: &[u8], n: usize) -> &[u8] {
-    if n < bytes.len() {
-        return &bytes[..n];
-    }
-    bytes
-}
-
 // Writes the line for one field.
 fn show(field: &[u8]) {
     let mut out = [0u8; 1024];
@@ -123,7 +115,7 @@ fn show(field: &[u8]) {
     let b = put_integers(&mut out, a, field);
     let c = put_decimal(&mut out, b, field);
     let d = text::put_byte(&mut out, c, 10);
-    io::write_all(STDOUT_FILENO, front(&out, d));
+    io::write_all(STDOUT_FILENO, text::front(&out, d));
 }
 
 // Writes a line for each line of the input.

@@ -24,13 +24,13 @@ expandedOf edition num text room =
     Field
 
 -- the paper's number of each answer, and how many samples it gives
-unfoldable pub numberOf : Expanded → ℕ
+abbrev pub numberOf : Expanded → ℕ
 numberOf (Samples n) = 0
 numberOf Field = 5
 numberOf Shape = 11
 numberOf Room = 7
 
-unfoldable pub usedOf : Expanded → ℕ
+abbrev pub usedOf : Expanded → ℕ
 usedOf (Samples n) = n
 usedOf Field = 0
 usedOf Shape = 0

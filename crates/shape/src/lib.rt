@@ -7,7 +7,7 @@ ghost use Rattle.text.specs.Fields.{fieldsOf};
 ghost use Rattle.text.specs.Over.{clearedFrom};
 ghost use Rattle.shape.specs.Stored.{fieldsItem, itemOf, valuesOf};
 ghost use Rattle.shape.specs.Expand.{addOf, isPlain, plainOf, sumsOf, freshOf, traceOf};
-ghost use Rattle.shape.specs.Alone.{Expansion};
+ghost use Rattle.shape.specs.Alone.{numberOf, usedOf, Expansion};
 ghost use Rattle.shape.specs.Inside.{NextIs, countOf, judged, told, Ran, Went, PairWent, LaidAll};
 use numeral::Decimal;
 use numeral::Natural;
@@ -28,6 +28,32 @@ pub enum Expanded {
     Field,
     Shape,
     Room,
+}
+
+impl Expanded {
+    // The paper's number of this answer.
+    pub fn number(self) -> u64
+        ensures { λ r. ⌜ r ≡ numberOf self ⌝ }
+    {
+        match self {
+            Expanded::Samples(_) => 0,
+            Expanded::Field => 5,
+            Expanded::Shape => 11,
+            Expanded::Room => 7,
+        }
+    }
+
+    // How many samples it gives.
+    pub fn used(self) -> usize
+        ensures { λ r. ⌜ r ≡ usedOf self ⌝ }
+    {
+        match self {
+            Expanded::Samples(n) => n,
+            Expanded::Field => 0,
+            Expanded::Shape => 0,
+            Expanded::Room => 0,
+        }
+    }
 }
 
 // What a stored line holds.

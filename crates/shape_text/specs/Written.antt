@@ -76,12 +76,12 @@ writtenOf edition zs room =
     cond (isWritable zs) (cond (leb (length (textOf edition zs)) (min room (2 ^ 24))) (Text (length (textOf edition zs))) Output) Shape
 
 -- the paper's number of each answer, and the length of the text
-unfoldable pub numberOf : Written → ℕ
+abbrev pub numberOf : Written → ℕ
 numberOf (Text n) = 0
 numberOf Shape = 11
 numberOf Output = 19
 
-unfoldable pub lengthOf : Written → ℕ
+abbrev pub lengthOf : Written → ℕ
 lengthOf (Text n) = n
 lengthOf Shape = 0
 lengthOf Output = 0

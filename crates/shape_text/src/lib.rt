@@ -6,7 +6,7 @@ ghost use Prim.Native.Nat.{_-_, _<_};
 ghost use lib.ListN.{length};
 ghost use Rattle.text.specs.Over.{Put, clearedFrom};
 ghost use Rattle.print.specs.Printed.{sampleText};
-ghost use Rattle.shape_text.specs.Written.{isPlainText, endedLines, runLines, plainLines, packedLines, textOf, allWithin, isWritable, Writing};
+ghost use Rattle.shape_text.specs.Written.{isPlainText, endedLines, runLines, plainLines, packedLines, textOf, allWithin, isWritable, numberOf, lengthOf, Writing};
 ghost use Rattle.shape_text.specs.Inside.{stepAt, RunAt};
 use shape::Edition;
 use signed::Sum;
@@ -16,6 +16,30 @@ pub enum Written {
     Text(usize),
     Shape,
     Output,
+}
+
+impl Written {
+    // The paper's number of this answer.
+    pub fn number(self) -> u64
+        ensures { λ r. ⌜ r ≡ numberOf self ⌝ }
+    {
+        match self {
+            Written::Text(_) => 0,
+            Written::Shape => 11,
+            Written::Output => 19,
+        }
+    }
+
+    // How long the text is.
+    pub fn size(self) -> usize
+        ensures { λ r. ⌜ r ≡ lengthOf self ⌝ }
+    {
+        match self {
+            Written::Text(n) => n,
+            Written::Shape => 0,
+            Written::Output => 0,
+        }
+    }
 }
 
 // Is every sample within ±100,000?

@@ -2,7 +2,7 @@
 // Everything is a place in a slice: nothing is copied.
 ghost use mathlib.Core.Path.{_≡_};
 ghost use mathlib.Core.List.{[], _∷_};
-ghost use lib.ListN.{drop};
+ghost use lib.ListN.{take, drop};
 ghost use Rattle.text.specs.Lines.{startsLF, lineAt};
 ghost use Rattle.text.specs.Marks.{isBlank, markOf, isControl, anyControl, breaksLine};
 ghost use Rattle.text.specs.Fields.{skipped, fieldAt, trimmedAt};
@@ -204,6 +204,16 @@ pub fn same(part: &[u8], word: &[u8]) -> bool
         i += 1;
     }
     true
+}
+
+// The first n bytes, or all where there are fewer: of an output, what was laid over it.
+pub fn front(bytes: &[u8], n: usize) -> &[u8]
+    ensures { λ r. ⌜ now r ≡ take n (now (bytes .entry)) ⌝ }
+{
+    if n < bytes.len() {
+        return &bytes[..n];
+    }
+    bytes
 }
 
 // Lays a byte over the output at a place, if that place is there. Returns the next place.

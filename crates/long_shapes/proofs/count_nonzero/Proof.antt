@@ -1,0 +1,54 @@
+-- `long_shapes::count_nonzero` is safe and ends. The loop's invariant: it counts at most the samples that it has passed.
+-- The measure is how many are left. Assumes nothing.
+use mathlib.Core.Logic.{⊎-elim}
+use Prim.Native.Nat.{_-_, _≤_}
+use lib.ListN.{length}
+use native.Mathlib.Omega.{arith}
+use borrow.Author.Needs.{needs}
+use Rattle.long_shapes.proofs.count_nonzero.Statement.{statement}
+use Rattle.long_shapes.proofs.count_nonzero.Tie as tie
+
+abbrev Inv-loop : tie.InvT-loop
+Inv-loop samples n₀ i₀ n i = n ≤ i
+
+abbrev μ-loop : tie.MeasureT-loop
+μ-loop samples n₀ i₀ n i = length samples - i
+
+loop-holds : tie.Need-loop-holds Inv-loop μ-loop
+loop-holds c = search needs
+
+mul-if1 : tie.Need-mul-if1 Inv-loop μ-loop
+mul-if1 c = search needs
+
+shared-slice-copy-out-if1 : tie.Need-shared-slice-copy-out-if1 Inv-loop μ-loop
+shared-slice-copy-out-if1 c = search needs
+
+add-n : tie.Need-add-n Inv-loop μ-loop
+add-n c = search needs
+
+add-i : tie.Need-add-i Inv-loop μ-loop
+add-i c = search needs
+
+loop-less : tie.Need-loop-less Inv-loop μ-loop
+loop-less c = search needs
+
+loop-again : tie.Need-loop-again Inv-loop μ-loop
+loop-again c = ⊎-elim (λ w. omega arith) (λ w. omega arith) (c .if1 .came)
+
+returns : tie.Need-returns Inv-loop μ-loop
+returns c = search needs
+
+pub count-nonzero-spec : {M : Type 1} → statement M
+count-nonzero-spec =
+    tie.close
+    (tie.spec
+    Inv-loop
+    μ-loop
+    loop-holds
+    mul-if1
+    shared-slice-copy-out-if1
+    add-n
+    add-i
+    loop-less
+    loop-again
+    returns)
