@@ -15,23 +15,11 @@ use Rattle.signed.proofs.Difference.{sub-same, sub-pos, sub-negsuc, sub-abs}
 use Rattle.signed.proofs.Sign.{size-signed, sign-size, sameZ-true, sameZ-refl, abs-neg}
 use Rattle.numeral.specs.Digits.{isMinus, unsigned}
 use Rattle.numeral.specs.Decimal.{stripFrom, kept, inLimits, isUnsigned, keptOf, decimalOf, sameDecimal}
+use Rattle.numeral.specs.Kept.{nothing, Normal, Kept}
 use Rattle.numeral.specs.declared.Decimal.{Decimal}
 use Rattle.numeral.specs.declared.Number.the-variants.{Value, Bad}
 use Rattle.text.proofs.Cases.{cond-yes, and-both, eq-or-ne}
 use Rattle.numeral.proofs.Zeros.{strip-more, strip-done}
-
--- ---- A kept pair
--- zero is 0 and 0; any other mantissa has no trailing zero
-abbrev pub nothing : Decimal
-nothing = record { mantissa = pos 0; exponent = pos 0 }
-
-abbrev pub Normal : Decimal → Type 0
-Normal d = (d ≡ nothing) ⊎ (natAbs (d .mantissa) % 10 ≡ 0 → ⊥)
-
-pub record Kept (d : Decimal) : Type 0 where
-  pub digits : natAbs (d .mantissa) < 10 ^ 18
-  pub power : natAbs (d .exponent) ≤ 99
-  pub normal : Normal d
 
 strip-last : (k n z : ℕ) → n ≤ k → 1 ≤ n → (stripFrom n z) .v % 10 ≡ 0 → ⊥
 strip-last zero n z p l = absurd (omega arith)

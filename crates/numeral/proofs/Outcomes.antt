@@ -176,20 +176,20 @@ module _ (d : Decimal) (negative : Bool) (s : negative ≡ isNegative (d .mantis
   round-down e = rw (s, p, down-round (natAbs (d .mantissa)) k (d .exponent +ℤ pos 12) e)
 
 -- what there is of a whole worth is in the range
-at-range : (low high n : ℕ) (x : ℤ) (m : ℕ) → wholeAt low high n x ≡ NaturalValue m → m ≤ high
+range-both : (low high n m : ℕ) → inRange low high n ≡ NaturalValue m → (low ≤ m) × (m ≤ high)
+range-both low high n m e = let r = range-inv low high n m e in rw (← (r .same)) (r .least, r .most)
+
+at-range : (low high n : ℕ) (x : ℤ) (m : ℕ) → wholeAt low high n x ≡ NaturalValue m → (low ≤ m) × (m ≤ high)
 unfolding wholeAt
-at-range low high n (pos k) m e = let r = range-inv low high (n * 10 ^ k) m e in let a = r .same in let b = r .most in omega arith
+at-range low high n (pos k) m e = range-both low high (n * 10 ^ k) m e
 at-range low high n (negsuc k) m e =
     let c = cond-yes (eqb (n % 10 ^ suc k) 0) (inRange low high (n / 10 ^ suc k)) (not-bad m) e in
-    let r = range-inv low high (n / 10 ^ suc k) m (c .1) in
-    let a = r .same in
-    let b = r .most in
-    omega arith
+    range-both low high (n / 10 ^ suc k) m (c .1)
 
-pub whole-most : (d : Decimal) (shift low high m : ℕ) → wholeOf d shift low high ≡ NaturalValue m → m ≤ high
+pub whole-range : (d : Decimal) (shift low high m : ℕ) → wholeOf d shift low high ≡ NaturalValue m → (low ≤ m) × (m ≤ high)
 unfolding wholeOf
-whole-most d shift low high m e = go (isNegative (d .mantissa)) e
+whole-range d shift low high m e = go (isNegative (d .mantissa)) e
   where
-    go : (b : Bool) → cond b NaturalBad (wholeAt low high (natAbs (d .mantissa)) (d .exponent +ℤ pos shift)) ≡ NaturalValue m → m ≤ high
+    go : (b : Bool) → cond b NaturalBad (wholeAt low high (natAbs (d .mantissa)) (d .exponent +ℤ pos shift)) ≡ NaturalValue m → (low ≤ m) × (m ≤ high)
     go true q = absurd (not-bad m q)
     go false q = at-range low high (natAbs (d .mantissa)) (d .exponent +ℤ pos shift) m q

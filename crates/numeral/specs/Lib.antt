@@ -2,5 +2,6 @@
 pub mod Digits
 pub mod Integer
 pub mod Decimal
+pub mod Kept
 pub mod Worth
 pub mod Inside

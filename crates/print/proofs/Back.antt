@@ -22,7 +22,8 @@ use Rattle.numeral.specs.declared.Number.the-variants.{Value}
 use Rattle.numeral.specs.declared.Signed.the-variants.{Value as SignedValue}
 use Rattle.text.proofs.Cases.{eq-or-ne}
 use Rattle.numeral.proofs.Integer.{integer-yes, integer-value, range-value}
-use Rattle.numeral.proofs.Kept.{Kept, Normal, nothing, kept-normal}
+use Rattle.numeral.specs.Kept.{Kept, Normal, nothing}
+use Rattle.numeral.proofs.Kept.{kept-normal}
 use Rattle.numeral.proofs.Zeros.{strip-done, strip-le, strip-some, strip-worth, strip-fewer}
 use Rattle.print.specs.Printed.{digitsOf, signedText, powerText, decimalText, sampleText}
 use Rattle.print.proofs.Digits.{digits-all, digits-some, digits-value, digits-within}

@@ -3,5 +3,6 @@ pub mod Digits
 pub mod Writing
 pub mod Parts
 pub mod Back
+pub mod Naturals
 pub mod Figures
 pub mod Examples

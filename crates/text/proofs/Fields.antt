@@ -7,7 +7,7 @@ use lib.Dec.{leb}
 use lib.ListN.{length}
 use Rattle.text.specs.Lines.{onto}
 use Rattle.text.specs.Marks.{isBlank}
-use Rattle.text.specs.Fields.{endsField, fieldsOf}
+use Rattle.text.specs.Fields.{endsField, fieldsOf, spaced, joined}
 use Rattle.text.proofs.Lines.{or-left, or-right}
 
 unfoldable pub hasBlank : List ℕ → Bool
@@ -21,12 +21,6 @@ pub record Word (w : List ℕ) : Type 0 where
 pub data AllWords : List (List ℕ) → Type 0 where
   none-left : AllWords []
   one-more : {w : List ℕ} {ws : List (List ℕ)} → Word w → AllWords ws → AllWords (w ∷ ws)
-
--- the words with a space between each two
-unfoldable pub joined : List (List ℕ) → List ℕ
-joined [] = []
-joined (w ∷ []) = w
-joined (w ∷ v ∷ ws) = w ++ 32 ∷ joined (v ∷ ws)
 
 -- ---- one word
 module _ (rest : List ℕ) (f : endsField rest ≡ true) where
@@ -53,12 +47,18 @@ unfolding endsField fieldsOf
 fields-last {w} p = ap fieldsOf (sym (append-nil w)) ∙ fields-then [] refl p
 
 -- ---- the law
-joined-more : {w : List ℕ} (ws : List (List ℕ)) → Word w → fieldsOf (joined ws) ≡ ws → fieldsOf (joined (w ∷ ws)) ≡ w ∷ ws
-unfolding joined
-joined-more [] p e = fields-last p
-joined-more {w} (v ∷ ws) p e = fields-word (joined (v ∷ ws)) p ∙ ap (λ (r : List (List ℕ)). w ∷ r) e
+-- what is spaced starts with a blank, if at all
+ends-spaced : (ws : List (List ℕ)) → endsField (spaced ws) ≡ true
+unfolding spaced endsField isBlank
+ends-spaced [] = refl
+ends-spaced (w ∷ ws) = refl
+
+spaced-fields : {ws : List (List ℕ)} → AllWords ws → fieldsOf (spaced ws) ≡ ws
+unfolding spaced fieldsOf isBlank
+spaced-fields none-left = refl
+spaced-fields (one-more {w} {ws} p q) = fields-then (spaced ws) (ends-spaced ws) p ∙ ap (λ (r : List (List ℕ)). w ∷ r) (spaced-fields q)
 
 pub fields-joined : {ws : List (List ℕ)} → AllWords ws → fieldsOf (joined ws) ≡ ws
 unfolding joined fieldsOf
 fields-joined none-left = refl
-fields-joined (one-more {w} {ws} p q) = joined-more ws p (fields-joined q)
+fields-joined (one-more {w} {ws} p q) = fields-then (spaced ws) (ends-spaced ws) p ∙ ap (λ (r : List (List ℕ)). w ∷ r) (spaced-fields q)

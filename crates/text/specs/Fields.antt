@@ -1,7 +1,7 @@
 -- The fields of a line: its runs of bytes that are not blank. And a text without the blanks around it.
 use Prim.Native.Nat.{ℕ, suc, _+_}
 use mathlib.Core.Bool.{Bool, true, cond, _&&_}
-use mathlib.Core.List.{List, [], _∷_}
+use mathlib.Core.List.{List, [], _∷_, _++_}
 use lib.Dec.{eqb}
 use lib.ListN.{drop, take}
 use Rattle.text.specs.Lines.{onto}
@@ -17,6 +17,16 @@ endsField (c ∷ s) = isBlank c
 unfoldable pub fieldsOf : List ℕ → List (List ℕ)
 fieldsOf [] = []
 fieldsOf (c ∷ s) = cond (isBlank c) (fieldsOf s) (cond (endsField s) ((c ∷ []) ∷ fieldsOf s) (onto c (fieldsOf s)))
+
+-- ---- "single spaces": words with a space, 32, between each two
+-- each with a space in front
+unfoldable pub spaced : List (List ℕ) → List ℕ
+spaced [] = []
+spaced (w ∷ ws) = 32 ∷ w ++ spaced ws
+
+unfoldable pub joined : List (List ℕ) → List ℕ
+joined [] = []
+joined (w ∷ ws) = w ++ spaced ws
 
 -- ---- "trimmed"
 -- how many blanks stand in front

@@ -5,8 +5,8 @@ ghost use mathlib.Core.List.{[], _∷_};
 ghost use lib.ListN.{take, drop};
 ghost use Rattle.text.specs.Lines.{startsLF, lineAt};
 ghost use Rattle.text.specs.Marks.{isBlank, markOf, isControl, anyControl, breaksLine};
-ghost use Rattle.text.specs.Fields.{skipped, fieldAt, trimmedAt};
-ghost use Rattle.text.specs.Words.{sameBytes};
+ghost use Rattle.text.specs.Fields.{fieldsOf, skipped, fieldAt, trimmedAt};
+ghost use Rattle.text.specs.Words.{sameBytes, placeOf};
 ghost use Rattle.text.specs.Over.{Put};
 
 // A line that starts at a place: where its text stops, and where the next line starts.
@@ -204,6 +204,27 @@ pub fn same(part: &[u8], word: &[u8]) -> bool
         i += 1;
     }
     true
+}
+
+// Where a word stands among the fields of a line, from 1; 0 if it is none of them.
+pub fn word_place(words: &[u8], word: &[u8]) -> usize
+    ensures { λ r. ⌜ r ≡ placeOf (fieldsOf (now (words .entry))) (now (word .entry)) ⌝ }
+{
+    let mut at = 0;
+    let mut n = 0;
+    loop {
+        let field = next_field(words, at);
+        let start = field.start;
+        let stop = field.stop;
+        if words.len() <= start {
+            return 0;
+        }
+        n += 1;
+        if same(&words[start..stop], word) {
+            return n;
+        }
+        at = stop;
+    }
 }
 
 // The first n bytes, or all where there are fewer: of an output, what was laid over it.

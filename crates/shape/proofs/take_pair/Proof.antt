@@ -5,7 +5,7 @@ use denote.Ref.{now}
 use Rattle.signed.proofs.Machine.{rd-is, rd-at}
 use Rattle.numeral.specs.Worth.{wholeOf}
 use Rattle.numeral.specs.declared.Natural.the-variants.{Value as NaturalValue}
-use Rattle.numeral.proofs.Outcomes.{whole-most}
+use Rattle.numeral.proofs.Outcomes.{whole-range}
 use Rattle.shape.specs.Inside.{ValueAt}
 use Rattle.shape.proofs.Moves.{pair-end, pair-uncounted, pair-value, pair-beyond}
 use borrow.Author.Needs.{needs}
@@ -32,7 +32,7 @@ enum-known-n : tie.Need-enum-known-n
 enum-known-n c = search needs
 
 add-more : tie.Need-add-more
-add-more c = omega (arith, whole-most _ 0 0 1000000 _ (count (c .before)))
+add-more c = omega (arith, whole-range _ 0 0 1000000 _ (count (c .before)) .1)
 
 lay-run-requires : tie.Need-lay-run-requires
 lay-run-requires c κs = search needs
