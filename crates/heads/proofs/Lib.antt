@@ -1,0 +1,6 @@
+-- The laws of lines that have a form of their own, and what several proofs use.
+pub mod Counted
+pub mod Names
+pub mod Forms
+pub mod Ranges
+pub mod Examples

@@ -1,0 +1,250 @@
+// Lines that have a form of their own: labels, `extension` lines, and the two lines of a shape's head.
+ghost use mathlib.Core.Path.{_≡_};
+ghost use mathlib.Core.Bool.{false};
+ghost use Rattle.text.specs.Fields.{fieldsOf};
+ghost use Rattle.text.specs.Words.{placeOf};
+ghost use Rattle.numeral.specs.Integer.{integerOf, signedAs};
+ghost use Rattle.heads.specs.Heads.{labelNames, labelValue, labelOf, labelFields, isNameByte, allNameBytes, isName, extensionNames, extensionOf, extensionFields, wordNumberOf};
+ghost use Rattle.heads.specs.Inside.{TwoIs, ThreeIs};
+use numeral::Natural;
+use numeral::Signed;
+use shape::Edition;
+
+// What such a line holds: a label's ID, value and number; or an extension's type and the code of its name.
+pub enum Head {
+    Label(u64, i64, usize),
+    Extension(u64, usize),
+    Bad,
+}
+
+// Where the fields of a line of two stand, or that it has another number of them.
+enum Two {
+    Fields(usize, usize, usize, usize),
+    Other,
+}
+
+// Where the fields of a line of three stand, or that it has another number of them.
+enum Three {
+    Fields(usize, usize, usize, usize, usize, usize),
+    Other,
+}
+
+// The fields of a line that has two.
+fn two_fields(line: &[u8]) -> Two
+    ensures { λ r. ⌜ TwoIs (now (line .entry)) r ⌝ }
+{
+    let first = text::next_field(line, 0);
+    let a = first.start;
+    let b = first.stop;
+    if line.len() <= a {
+        return Two::Other;
+    }
+    let second = text::next_field(line, b);
+    let c = second.start;
+    let d = second.stop;
+    if line.len() <= c {
+        return Two::Other;
+    }
+    let rest = text::next_field(line, d);
+    if rest.start < line.len() {
+        return Two::Other;
+    }
+    Two::Fields(a, b, c, d)
+}
+
+// The fields of a line that has three.
+fn three_fields(line: &[u8]) -> Three
+    ensures { λ r. ⌜ ThreeIs (now (line .entry)) r ⌝ }
+{
+    let first = text::next_field(line, 0);
+    let a = first.start;
+    let b = first.stop;
+    if line.len() <= a {
+        return Three::Other;
+    }
+    let second = text::next_field(line, b);
+    let c = second.start;
+    let d = second.stop;
+    if line.len() <= c {
+        return Three::Other;
+    }
+    let third = text::next_field(line, d);
+    let e = third.start;
+    let f = third.stop;
+    if line.len() <= e {
+        return Three::Other;
+    }
+    let rest = text::next_field(line, f);
+    if rest.start < line.len() {
+        return Three::Other;
+    }
+    Three::Fields(a, b, c, d, e, f)
+}
+
+// A number with no sign, from 0 to `most`.
+fn flag_value(field: &[u8], most: u64) -> Signed
+    ensures { λ r. ⌜ r ≡ signedAs false (integerOf 0 most (now (field .entry))) ⌝ }
+{
+    match numeral::read_integer(field, 0, most) {
+        Natural::Value(n) => Signed::Value(signed::with_sign(false, n)),
+        Natural::Bad => Signed::Bad,
+    }
+}
+
+// The value of a label, by its number in the list and whether it is set or incremented.
+fn label_value(edition: Edition, increment: bool, label: usize, field: &[u8]) -> Signed
+    ensures { λ r. ⌜ r ≡ labelValue edition increment label (now (field .entry)) ⌝ }
+{
+    if label == 0 {
+        return Signed::Bad;
+    }
+    if label < 10 {
+        return numeral::read_counter(field, 2147483647);
+    }
+    if increment {
+        return Signed::Bad;
+    }
+    if label < 13 {
+        return flag_value(field, 1);
+    }
+    if 13 < label {
+        return Signed::Bad;
+    }
+    match edition {
+        Edition::V13 => Signed::Bad,
+        Edition::V14 => flag_value(field, 2147483647),
+    }
+}
+
+// A label's number in the list of thirteen; 0 if it is none of them.
+fn label_place(name: &[u8]) -> usize
+    ensures { λ r. ⌜ r ≡ placeOf labelNames (now (name .entry)) ⌝ }
+{
+    text::word_place(
+        b"LIN PAR SLC SEG REP AVG SET ECO PHS NAV REV SMS ONCE",
+        name,
+    )
+}
+
+// The three fields of a label's line.
+fn label_in(edition: Edition, increment: bool, id: &[u8], value: &[u8], name: &[u8]) -> Head
+    ensures { λ r. ⌜ r ≡ labelFields edition increment (now (id .entry)) (now (value .entry)) (now (name .entry)) ⌝ }
+{
+    let label = label_place(name);
+    match numeral::read_integer(id, 1, 2147483647) {
+        Natural::Value(n) => match label_value(edition, increment, label, value) {
+            Signed::Value(v) => Head::Label(n, v, label),
+            Signed::Bad => Head::Bad,
+        },
+        Natural::Bad => Head::Bad,
+    }
+}
+
+// A line of LABELSET, or of LABELINC where `increment` says so: id, value, label.
+pub fn read_label(edition: Edition, increment: bool, line: &[u8]) -> Head
+    ensures { λ r. ⌜ r ≡ labelOf edition increment (fieldsOf (now (line .entry))) ⌝ }
+{
+    match three_fields(line) {
+        Three::Fields(a, b, c, d, e, f) => label_in(
+            edition,
+            increment,
+            &line[a..b],
+            &line[c..d],
+            &line[e..f],
+        ),
+        Three::Other => Head::Bad,
+    }
+}
+
+// A letter, a digit or an underscore.
+fn is_name_byte(b: u8) -> bool
+    ensures { λ r. ⌜ r ≡ isNameByte b ⌝ }
+{
+    if b < 48 {
+        return false;
+    }
+    if b < 58 {
+        return true;
+    }
+    if b < 65 {
+        return false;
+    }
+    if b < 91 {
+        return true;
+    }
+    if b == 95 {
+        return true;
+    }
+    if b < 97 {
+        return false;
+    }
+    b < 123
+}
+
+// Is this a name: 1 to 32 letters, digits and underscores?
+fn is_name(name: &[u8]) -> bool
+    ensures { λ r. ⌜ r ≡ isName (now (name .entry)) ⌝ }
+{
+    if name.len() == 0 {
+        return false;
+    }
+    if 32 < name.len() {
+        return false;
+    }
+    let mut i = 0;
+    while i < name.len() {
+        if !is_name_byte(name[i]) {
+            return false;
+        }
+        i += 1;
+    }
+    true
+}
+
+// The code of an extension's name: 1 TRIGGERS, 2 LABELSET, 3 LABELINC, 0 any other.
+fn extension_code(name: &[u8]) -> usize
+    ensures { λ r. ⌜ r ≡ placeOf extensionNames (now (name .entry)) ⌝ }
+{
+    text::word_place(b"TRIGGERS LABELSET LABELINC", name)
+}
+
+// The three fields of an `extension` line.
+fn extension_in(word: &[u8], name: &[u8], number: &[u8]) -> Head
+    ensures { λ r. ⌜ r ≡ extensionFields (now (word .entry)) (now (name .entry)) (now (number .entry)) ⌝ }
+{
+    if !text::same(word, b"extension") {
+        return Head::Bad;
+    }
+    if !is_name(name) {
+        return Head::Bad;
+    }
+    match numeral::read_integer(number, 1, 2147483647) {
+        Natural::Value(n) => Head::Extension(n, extension_code(name)),
+        Natural::Bad => Head::Bad,
+    }
+}
+
+// A line `extension NAME type`.
+pub fn read_extension(line: &[u8]) -> Head
+    ensures { λ r. ⌜ r ≡ extensionOf (fieldsOf (now (line .entry))) ⌝ }
+{
+    match three_fields(line) {
+        Three::Fields(a, b, c, d, e, f) => extension_in(&line[a..b], &line[c..d], &line[e..f]),
+        Three::Other => Head::Bad,
+    }
+}
+
+// A line of a word and a number in a range, as `shape_id N` and `num_samples N`.
+pub fn read_word_number(line: &[u8], word: &[u8], low: u64, high: u64) -> Natural
+    ensures { λ r. ⌜ r ≡ wordNumberOf (now (word .entry)) low high (fieldsOf (now (line .entry))) ⌝ }
+{
+    match two_fields(line) {
+        Two::Fields(a, b, c, d) => {
+            if text::same(&line[a..b], word) {
+                return numeral::read_integer(&line[c..d], low, high);
+            }
+            Natural::Bad
+        }
+        Two::Other => Natural::Bad,
+    }
+}
