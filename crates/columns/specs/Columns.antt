@@ -4,6 +4,7 @@
 use Prim.Native.Nat.{ℕ}
 use mathlib.Core.Bool.{Bool, true, false}
 use mathlib.Core.List.{List, [], _∷_}
+use Rattle.numeral.specs.Integer.{largestId}
 use Rattle.shape.specs.declared.Edition.{Edition}
 use Rattle.shape.specs.declared.Edition.the-variants.{V13, V14}
 use Rattle.columns.specs.declared.Kind.{Kind}
@@ -56,13 +57,13 @@ leastOf Dwell = 1
 leastOf Absent = 0
 
 abbrev pub mostOf : Kind → ℕ
-mostOf Id = 2147483647
-mostOf Reference = 2147483647
-mostOf Required = 2147483647
+mostOf Id = largestId
+mostOf Reference = largestId
+mostOf Required = largestId
 mostOf Micros = 1000000000
 mostOf Duration = 1000000000
 mostOf Count = 1000000
-mostOf Natural = 2147483647
+mostOf Natural = largestId
 mostOf Decimal = 0
 mostOf Dwell = 1000000000
 mostOf Absent = 0

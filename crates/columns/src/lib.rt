@@ -83,6 +83,9 @@ const COLUMNS: [[u8; 9]; 16] = [
     [0, 6, 6, 3, 3, 9, 9, 9, 9],
 ];
 
+// The largest ID, type, channel and reference.
+const LARGEST_ID: u64 = 2147483647;
+
 // How many columns each form has; a block's last is its ns, which no field stands for.
 const COUNTS: [u8; 8] = [9, 8, 5, 6, 6, 2, 4, 5];
 
@@ -206,13 +209,13 @@ fn most_of(kind: Kind) -> u64
     ensures { λ r. ⌜ r ≡ mostOf kind ⌝ }
 {
     match kind {
-        Kind::Id => 2147483647,
-        Kind::Reference => 2147483647,
-        Kind::Required => 2147483647,
+        Kind::Id => LARGEST_ID,
+        Kind::Reference => LARGEST_ID,
+        Kind::Required => LARGEST_ID,
         Kind::Micros => 1000000000,
         Kind::Duration => 1000000000,
         Kind::Count => 1000000,
-        Kind::Natural => 2147483647,
+        Kind::Natural => LARGEST_ID,
         Kind::Decimal => 0,
         Kind::Dwell => 1000000000,
         Kind::Absent => 0,

@@ -9,14 +9,14 @@ use lib.IntN.{ℤ}
 use lib.ListN.{length}
 use Rattle.text.specs.Fields.{fieldsOf}
 use Rattle.text.specs.Words.{sameBytes, placeOf}
-use Rattle.numeral.specs.Integer.{integerOf, signedAs, counterOf}
+use Rattle.numeral.specs.Integer.{largestId, integerOf, signedAs, counterOf}
 use Rattle.numeral.specs.declared.Natural.{Natural}
 use Rattle.numeral.specs.declared.Natural.the-variants.{Value as NaturalValue, Bad as NaturalBad}
 use Rattle.numeral.specs.declared.Signed.{Signed}
 use Rattle.numeral.specs.declared.Signed.the-variants.{Value as SignedValue, Bad as SignedBad}
 use Rattle.shape.specs.declared.Edition.{Edition}
 use Rattle.shape.specs.declared.Edition.the-variants.{V13, V14}
-use Rattle.heads.specs.Heads.{labelNames, largestId, isV14, setValue, incrementValue, labelValue, labelHead, labelFields, labelOf, isName, extensionNames, extensionWord, extensionHead, extensionFields, extensionOf, wordNumberOf}
+use Rattle.heads.specs.Heads.{labelNames, isV14, setValue, incrementValue, labelValue, labelHead, labelFields, labelOf, isName, extensionNames, extensionWord, extensionHead, extensionFields, extensionOf, wordNumberOf}
 use Rattle.heads.specs.Inside.{TwoAre, ThreeAre, partOf}
 use Rattle.heads.specs.declared.Head.the-variants.{Label, Extension, Bad}
 

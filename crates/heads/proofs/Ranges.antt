@@ -11,14 +11,14 @@ use Rattle.text.specs.Words.{sameBytes, placeFrom, placeOf}
 use Rattle.text.proofs.Cases.{cond-yes}
 use Rattle.signed.proofs.Sign.{size-signed}
 use Rattle.numeral.specs.Digits.{isMinus}
-use Rattle.numeral.specs.Integer.{integerOf, signedAs, counterOf}
+use Rattle.numeral.specs.Integer.{largestId, integerOf, signedAs, counterOf}
 use Rattle.numeral.specs.declared.Natural.{Natural}
 use Rattle.numeral.specs.declared.Natural.the-variants.{Value as NaturalValue, Bad as NaturalBad}
 use Rattle.numeral.specs.declared.Signed.{Signed}
 use Rattle.numeral.specs.declared.Signed.the-variants.{Value as SignedValue, Bad as SignedBad}
 use Rattle.numeral.proofs.Integer.{integer-inv}
 use Rattle.shape.specs.declared.Edition.{Edition}
-use Rattle.heads.specs.Heads.{labelNames, largestId, isV14, setValue, incrementValue, labelValue, labelHead, labelFields, labelOf, isName, extensionNames, extensionWord, extensionHead, extensionFields, extensionOf}
+use Rattle.heads.specs.Heads.{labelNames, isV14, setValue, incrementValue, labelValue, labelHead, labelFields, labelOf, isName, extensionNames, extensionWord, extensionHead, extensionFields, extensionOf}
 use Rattle.heads.specs.declared.Head.the-variants.{Label, Extension, Bad}
 use Rattle.heads.proofs.Forms.{value-unknown}
 

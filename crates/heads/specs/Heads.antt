@@ -5,7 +5,7 @@ use mathlib.Core.List.{List, [], _∷_}
 use lib.Dec.{leb, eqb}
 use lib.ListN.{length}
 use Rattle.text.specs.Words.{sameBytes, placeOf}
-use Rattle.numeral.specs.Integer.{integerOf, signedAs, counterOf}
+use Rattle.numeral.specs.Integer.{largestId, integerOf, signedAs, counterOf}
 use Rattle.numeral.specs.declared.Natural.{Natural}
 use Rattle.numeral.specs.declared.Natural.the-variants.{Value as NaturalValue, Bad as NaturalBad}
 use Rattle.numeral.specs.declared.Signed.{Signed}
@@ -33,10 +33,6 @@ labelNames =
     ∷ (83 ∷ 77 ∷ 83 ∷ [])
     ∷ (79 ∷ 78 ∷ 67 ∷ 69 ∷ [])
     ∷ []
-
--- M = 2,147,483,647
-abbrev pub largestId : ℕ
-largestId = 2147483647
 
 unfoldable pub isV14 : Edition → Bool
 isV14 V13 = false

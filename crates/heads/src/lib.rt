@@ -10,6 +10,9 @@ use numeral::Natural;
 use numeral::Signed;
 use shape::Edition;
 
+// The largest ID, type and counter.
+const LARGEST_ID: u64 = 2147483647;
+
 // What such a line holds: a label's ID, value and number; or an extension's type and the code of its name.
 pub enum Head {
     Label(u64, i64, usize),
@@ -99,7 +102,7 @@ fn label_value(edition: Edition, increment: bool, label: usize, field: &[u8]) ->
         return Signed::Bad;
     }
     if label < 10 {
-        return numeral::read_counter(field, 2147483647);
+        return numeral::read_counter(field, LARGEST_ID);
     }
     if increment {
         return Signed::Bad;
@@ -112,7 +115,7 @@ fn label_value(edition: Edition, increment: bool, label: usize, field: &[u8]) ->
     }
     match edition {
         Edition::V13 => Signed::Bad,
-        Edition::V14 => flag_value(field, 2147483647),
+        Edition::V14 => flag_value(field, LARGEST_ID),
     }
 }
 
@@ -131,7 +134,7 @@ fn label_in(edition: Edition, increment: bool, id: &[u8], value: &[u8], name: &[
     ensures { λ r. ⌜ r ≡ labelFields edition increment (now (id .entry)) (now (value .entry)) (now (name .entry)) ⌝ }
 {
     let label = label_place(name);
-    match numeral::read_integer(id, 1, 2147483647) {
+    match numeral::read_integer(id, 1, LARGEST_ID) {
         Natural::Value(n) => match label_value(edition, increment, label, value) {
             Signed::Value(v) => Head::Label(n, v, label),
             Signed::Bad => Head::Bad,
@@ -218,7 +221,7 @@ fn extension_in(word: &[u8], name: &[u8], number: &[u8]) -> Head
     if !is_name(name) {
         return Head::Bad;
     }
-    match numeral::read_integer(number, 1, 2147483647) {
+    match numeral::read_integer(number, 1, LARGEST_ID) {
         Natural::Value(n) => Head::Extension(n, extension_code(name)),
         Natural::Bad => Head::Bad,
     }

@@ -11,6 +11,10 @@ use Rattle.numeral.specs.declared.Natural.the-variants.{Value, Bad}
 use Rattle.numeral.specs.declared.Signed.{Signed}
 use Rattle.numeral.specs.declared.Signed.the-variants.{Value as SignedValue, Bad as SignedBad}
 
+-- "M = 2,147,483,647", the largest ID, type and counter
+abbrev pub largestId : ℕ
+largestId = 2147483647
+
 -- a number in a range
 unfoldable pub inRange : ℕ → ℕ → ℕ → Natural
 inRange low high n = cond (leb low n && leb n high) (Value n) Bad
