@@ -1,13 +1,14 @@
--- What a caller learns of next_line, next_field and trim: the first line and the first field cut off, a text trimmed. Assumes nothing.
-use Prim.Native.Nat.{ℕ, suc, _+_, _-_, _≤_, _<_}
+-- What a caller learns of next_line, next_field and trim: the first line, without its end and with it, and the first field cut off, a text
+-- trimmed. Assumes nothing.
+use Prim.Native.Nat.{ℕ, zero, suc, _+_, _-_, _≤_, _<_}
 use mathlib.Core.Bool.{Bool, true, false, cond, _&&_, true≢false}
-use mathlib.Core.List.{List, [], _∷_}
+use mathlib.Core.List.{List, [], _∷_, map}
 use mathlib.Core.Path.{_≡_, refl, sym, ap, _∙_}
 use native.Mathlib.Omega.{arith}
 use lib.Dec.{eqb}
 use lib.ListN.{length, take, drop, length-drop, drop-of-length-le}
-use lib.Seq.{drop-drop}
-use Rattle.text.specs.Lines.{startsLF, onto, linesOf, bareLen, passLen, lineAt}
+use lib.Seq.{take-take, drop-drop}
+use Rattle.text.specs.Lines.{startsLF, onto, linesOf, wholeLinesOf, bareOf, bareLen, passLen, lineAt}
 use Rattle.text.specs.Marks.{isBlank}
 use Rattle.text.specs.Fields.{endsField, fieldsOf, blankLen, bodyLen, trimmed, wordLen, skipped, fieldAt, trimmedAt}
 use Rattle.text.specs.declared.Line.{Line}
@@ -110,6 +111,79 @@ line-at text at r p h = go (drop at text) refl (length-drop at text)
           inside = omega arith;
           line = rw (e, b, add-sub-left, n, ← drop-drop, e) (lines-cut c s);
         }
+
+-- ---- lines with their ends
+wholes-cut : (c : ℕ) (s : List ℕ) → wholeLinesOf (c ∷ s) ≡ take (passLen (c ∷ s)) (c ∷ s) ∷ wholeLinesOf (drop (passLen (c ∷ s)) (c ∷ s))
+unfolding wholeLinesOf passLen onto
+wholes-cut c [] = go (eqb c 10)
+  where
+    go : (b : Bool) → cond b ((c ∷ []) ∷ []) ((c ∷ []) ∷ []) ≡ take (cond b 1 1) (c ∷ []) ∷ wholeLinesOf (drop (cond b 1 1) (c ∷ []))
+    go true = refl
+    go false = refl
+wholes-cut c (d ∷ s) = go (eqb c 10) (wholes-cut d s)
+  where
+    go : (b : Bool) → wholeLinesOf (d ∷ s) ≡ take (passLen (d ∷ s)) (d ∷ s) ∷ wholeLinesOf (drop (passLen (d ∷ s)) (d ∷ s))
+        → cond b ((c ∷ []) ∷ wholeLinesOf (d ∷ s)) (onto c (wholeLinesOf (d ∷ s)))
+        ≡ take (cond b 1 (suc (passLen (d ∷ s)))) (c ∷ d ∷ s) ∷ wholeLinesOf (drop (cond b 1 (suc (passLen (d ∷ s)))) (c ∷ d ∷ s))
+    go true e = refl
+    go false e = rw e
+
+-- the first line with its end starts as the text does, and is as long without it
+whole-starts : (s : List ℕ) → startsLF (take (passLen s) s) ≡ startsLF s
+unfolding startsLF passLen
+whole-starts [] = refl
+whole-starts (c ∷ s) = go (eqb c 10)
+  where
+    go : (b : Bool) → startsLF (take (cond b 1 (suc (passLen s))) (c ∷ s)) ≡ eqb c 10
+    go true = refl
+    go false = refl
+
+whole-bare : (s : List ℕ) → bareLen (take (passLen s) s) ≡ bareLen s
+unfolding bareLen passLen
+whole-bare [] = refl
+whole-bare (c ∷ s) = go (eqb c 10) refl (whole-bare s)
+  where
+    go : (b : Bool) → eqb c 10 ≡ b → bareLen (take (passLen s) s) ≡ bareLen s
+        → bareLen (take (cond b 1 (suc (passLen s))) (c ∷ s)) ≡ cond b 0 (cond (eqb c 13 && startsLF s) 0 (suc (bareLen s)))
+    go true e h = rw e
+    go false e h = rw (e, whole-starts s, h)
+
+bare-first : (s : List ℕ) → bareOf (take (passLen s) s) ≡ take (bareLen s) s
+unfolding bareOf
+bare-first s = rw (whole-bare s, take-take (bareLen s) (passLen s) s (bare-le s))
+
+-- the line at a place with its end
+pub record WholeAt (text : List ℕ) (at : ℕ) (r : Line) : Type 0 where
+  pub whole : wholeLinesOf (drop at text) ≡ take (r .next - at) (drop at text) ∷ wholeLinesOf (drop (r .next) text)
+  pub bare : bareOf (take (r .next - at) (drop at text)) ≡ take (r .stop - at) (drop at text)
+
+pub whole-at : (text : List ℕ) (at : ℕ) (r : Line) → r ≡ lineAt text at → at < length text → WholeAt text at r
+unfolding lineAt
+whole-at text at r p h = go (drop at text) refl (length-drop at text)
+  where
+    go : (s : List ℕ) → drop at text ≡ s → length s ≡ length text - at → WholeAt text at r
+    go [] e l = absurd (omega arith)
+    go (c ∷ s) e l =
+        let b : r .stop ≡ at + bareLen (c ∷ s) = ap (λ (x : Line). x .stop) p ∙ ap (λ (x : List ℕ). at + bareLen x) e in
+        let n : r .next ≡ at + passLen (c ∷ s) = ap (λ (x : Line). x .next) p ∙ ap (λ (x : List ℕ). at + passLen x) e in
+        record {
+          whole = rw (n, add-sub-left, ← drop-drop, e) (wholes-cut c s);
+          bare = rw (e, b, n, add-sub-left at (passLen (c ∷ s)), add-sub-left at (bareLen (c ∷ s))) (bare-first (c ∷ s));
+        }
+
+-- the lines are those with their ends, without them
+lines-bare-in : (n : ℕ) (t : List ℕ) → length t ≤ n → linesOf t ≡ map bareOf (wholeLinesOf t)
+unfolding linesOf wholeLinesOf
+lines-bare-in zero [] h = refl
+lines-bare-in zero (c ∷ s) h = absurd (omega arith)
+lines-bare-in (suc n) [] h = refl
+lines-bare-in (suc n) (c ∷ s) h =
+    let l = length-drop (passLen (c ∷ s)) (c ∷ s) in
+    let w = pass-some c s in
+    lines-cut c s ∙ rw (wholes-cut c s, bare-first (c ∷ s), lines-bare-in n (drop (passLen (c ∷ s)) (c ∷ s)) (omega arith))
+
+pub lines-bare : (t : List ℕ) → linesOf t ≡ map bareOf (wholeLinesOf t)
+lines-bare t = lines-bare-in (length t) t (omega arith)
 
 -- ---- fields
 fields-skip : (s : List ℕ) → fieldsOf s ≡ fieldsOf (drop (blankLen s) s)

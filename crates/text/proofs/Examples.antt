@@ -2,7 +2,7 @@
 use mathlib.Core.Path.{_≡_, refl}
 use mathlib.Core.Bool.{true, false}
 use mathlib.Core.List.{[], _∷_}
-use Rattle.text.specs.Lines.{startsLF, onto, linesOf}
+use Rattle.text.specs.Lines.{startsLF, onto, linesOf, wholeLinesOf}
 use Rattle.text.specs.Marks.{isBlank, markOf, isComment, isControl, anyControl, breaksLine}
 use Rattle.text.specs.Fields.{endsField, fieldsOf, blankLen, bodyLen, trimmed}
 use Rattle.text.specs.Over.{over}
@@ -16,6 +16,11 @@ lines-ends = refl
 lines-returns : linesOf (97 ∷ 13 ∷ 98 ∷ 13 ∷ 13 ∷ 10 ∷ []) ≡ (97 ∷ 13 ∷ 98 ∷ 13 ∷ []) ∷ []
 unfolding startsLF onto linesOf
 lines-returns = refl
+
+-- 'a\r\n\nb' with its ends
+lines-whole : wholeLinesOf (97 ∷ 13 ∷ 10 ∷ 10 ∷ 98 ∷ []) ≡ (97 ∷ 13 ∷ 10 ∷ []) ∷ (10 ∷ []) ∷ (98 ∷ []) ∷ []
+unfolding onto wholeLinesOf
+lines-whole = refl
 
 -- '\tab  c\t'
 fields-tabs : fieldsOf (9 ∷ 97 ∷ 98 ∷ 32 ∷ 32 ∷ 99 ∷ 9 ∷ []) ≡ (97 ∷ 98 ∷ []) ∷ (99 ∷ []) ∷ []

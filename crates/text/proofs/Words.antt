@@ -1,14 +1,15 @@
--- `sameBytes` decides whether two texts are equal; and what a turn of the comparison does. Assumes nothing.
+-- `sameBytes` decides whether two texts are equal; what a turn of the comparison does; and how large a word's place can be. Assumes nothing.
 use Prim.Native.Nat.{ℕ, suc, _+_, _≤_, _<_}
-use mathlib.Core.Bool.{Bool, true, false, _&&_, and-false, true≢false}
+use mathlib.Core.Bool.{Bool, true, false, cond, _&&_, and-false, true≢false}
 use mathlib.Core.List.{List, [], _∷_}
 use mathlib.Core.Path.{_≡_, refl, sym, ap, _∙_}
 use native.Mathlib.Numerals.{add-one}
+use native.Mathlib.Omega.{arith}
 use borrow.Author.Tests.{eq-eqb, ne-eqb, eqb-true}
 use lib.Dec.{eqb}
 use lib.ListN.{length, getD, drop, drop-of-length-le}
 use lib.Seq.{drop-cons}
-use Rattle.text.specs.Words.{sameBytes}
+use Rattle.text.specs.Words.{sameBytes, placeFrom, placeOf}
 
 -- ---- the law
 pub same-refl : (a : List ℕ) → sameBytes a a ≡ true
@@ -51,3 +52,16 @@ module _ (a b : List ℕ) (i : ℕ) where
     pub same-more : getD a i 0 ≡ getD b i 0 → sameBytes (drop i a) (drop i b) ≡ sameBytes (drop (i + 1) a) (drop (i + 1) b)
     unfolding sameBytes
     same-more e = rw (add-one i, drop-cons a i 0, drop-cons b i 0, eq-eqb _ _ e)
+
+-- ---- a place among words is at most their number
+place-most : (n : ℕ) (vs : List (List ℕ)) (w : List ℕ) → placeFrom n vs w ≤ n + length vs
+unfolding placeFrom
+place-most n [] w = omega arith
+place-most n (v ∷ vs) w = go (sameBytes v w) (place-most (suc n) vs w)
+  where
+    go : (b : Bool) → placeFrom (suc n) vs w ≤ suc n + length vs → cond b (suc n) (placeFrom (suc n) vs w) ≤ n + suc (length vs)
+    go true h = omega arith
+    go false h = omega arith
+
+pub place-le : (vs : List (List ℕ)) (w : List ℕ) → placeOf vs w ≤ length vs
+place-le vs w = let h = place-most 0 vs w in omega arith

@@ -3,7 +3,7 @@ use Prim.Native.Nat.{ℕ, suc, _+_}
 use mathlib.Core.Bool.{Bool, false, cond, _&&_}
 use mathlib.Core.List.{List, [], _∷_}
 use lib.Dec.{eqb}
-use lib.ListN.{drop}
+use lib.ListN.{take, drop}
 use Rattle.text.specs.declared.Line.{Line}
 
 -- ---- "LF ends a line; a CR just before it belongs to the end." LF is 10, CR is 13. What follows the last LF is a line if it is not empty.
@@ -20,6 +20,11 @@ unfoldable pub linesOf : List ℕ → List (List ℕ)
 linesOf [] = []
 linesOf (c ∷ s) = cond (eqb c 10) ([] ∷ linesOf s) (cond (eqb c 13 && startsLF s) (linesOf s) (onto c (linesOf s)))
 
+-- the same lines with their ends
+unfoldable pub wholeLinesOf : List ℕ → List (List ℕ)
+wholeLinesOf [] = []
+wholeLinesOf (c ∷ s) = cond (eqb c 10) ((c ∷ []) ∷ wholeLinesOf s) (onto c (wholeLinesOf s))
+
 -- ---- The first line's place: how long it is without its end, and with it
 unfoldable pub bareLen : List ℕ → ℕ
 bareLen [] = 0
@@ -28,6 +33,10 @@ bareLen (c ∷ s) = cond (eqb c 10) 0 (cond (eqb c 13 && startsLF s) 0 (suc (bar
 unfoldable pub passLen : List ℕ → ℕ
 passLen [] = 0
 passLen (c ∷ s) = cond (eqb c 10) 1 (suc (passLen s))
+
+-- a line without its end
+unfoldable pub bareOf : List ℕ → List ℕ
+bareOf l = take (bareLen l) l
 
 -- the line that starts at a place: where it stops, and where the next one starts
 unfoldable pub lineAt : List ℕ → ℕ → Line

@@ -2,7 +2,7 @@
 // Everything is a place in a slice: nothing is copied.
 ghost use mathlib.Core.Path.{_≡_};
 ghost use mathlib.Core.List.{[], _∷_};
-ghost use lib.ListN.{take, drop};
+ghost use lib.ListN.{length, getD, take, drop};
 ghost use Rattle.text.specs.Lines.{startsLF, lineAt};
 ghost use Rattle.text.specs.Marks.{isBlank, markOf, isControl, anyControl, breaksLine};
 ghost use Rattle.text.specs.Fields.{fieldsOf, skipped, fieldAt, trimmedAt};
@@ -167,6 +167,45 @@ pub fn next_field(line: &[u8], at: usize) -> Part
     Part {
         start: start,
         stop: stop,
+    }
+}
+
+// How many fields a line has.
+pub fn field_count(line: &[u8]) -> usize
+    ensures { λ r. ⌜ r ≡ length (fieldsOf (now (line .entry))) ⌝ }
+{
+    let mut at = 0;
+    let mut count = 0;
+    loop {
+        let field = next_field(line, at);
+        let start = field.start;
+        let stop = field.stop;
+        if line.len() <= start {
+            return count;
+        }
+        count += 1;
+        at = stop;
+    }
+}
+
+// The k-th field of a line, from 0; empty where there is none.
+pub fn field(line: &[u8], k: usize) -> &[u8]
+    ensures { λ r. ⌜ now r ≡ getD (fieldsOf (now (line .entry))) k [] ⌝ }
+{
+    let mut at = 0;
+    let mut left = k;
+    loop {
+        let field = next_field(line, at);
+        let start = field.start;
+        let stop = field.stop;
+        if line.len() <= start {
+            return &line[..0];
+        }
+        if left == 0 {
+            return &line[start..stop];
+        }
+        left -= 1;
+        at = stop;
     }
 }
 
