@@ -177,14 +177,12 @@ pub fn field_count(line: &[u8]) -> usize
     let mut at = 0;
     let mut count = 0;
     loop {
-        let field = next_field(line, at);
-        let start = field.start;
-        let stop = field.stop;
-        if line.len() <= start {
+        let next = next_field(line, at);
+        if line.len() <= next.start {
             return count;
         }
         count += 1;
-        at = stop;
+        at = next.stop;
     }
 }
 

@@ -37,8 +37,8 @@ abbrev μ-loop : tie.MeasureT-loop
 μ-loop line at₀ count₀ at count = length line - at
 
 -- the field that was found
-seen : (c : tie.Else1 Inv-loop μ-loop) → FieldAt (now (c .before .before .before .before .args .line)) (c .before .before .loop .at) (c .before .next-field .result)
-seen c = field-at _ _ _ (c .before .next-field .ensures) (omega arith)
+seen : (c : tie.Else1 Inv-loop μ-loop) → FieldAt (now (c .before .before .before .before .before .args .line)) (c .before .before .before .loop .at) (c .before .before .next-field .result)
+seen c = field-at _ _ _ (c .before .before .next-field .ensures) (omega arith)
 
 loop-holds : tie.Need-loop-holds Inv-loop μ-loop
 loop-holds c = record { all = omega arith; few = omega arith }
@@ -47,16 +47,16 @@ next-field-requires : tie.Need-next-field-requires Inv-loop μ-loop
 next-field-requires c κs = search needs
 
 returns : tie.Need-returns Inv-loop μ-loop
-returns c = none-left _ _ _ (c .before .before .loop .inv) _ (c .before .next-field .ensures) (c .if1 .taken)
+returns c = none-left _ _ _ (c .before .before .before .loop .inv) _ (c .before .before .next-field .ensures) (c .if1 .taken)
 
 add-count : tie.Need-add-count Inv-loop μ-loop
-add-count c = let f = seen c in omega (arith, f .later, f .some, f .within, c .before .before .loop .inv .few)
+add-count c = let f = seen c in omega (arith, f .later, f .some, f .within, c .before .before .before .loop .inv .few)
 
 loop-less : tie.Need-loop-less Inv-loop μ-loop
 loop-less c = let f = seen c in omega (arith, f .later, f .some, f .within)
 
 loop-again : tie.Need-loop-again Inv-loop μ-loop
-loop-again c = turn _ _ _ (c .before .before .loop .inv) _ (seen c)
+loop-again c = turn _ _ _ (c .before .before .before .loop .inv) _ (seen c)
 
 pub field-count-spec : {M : Type 1} → statement M
 field-count-spec =
