@@ -2,13 +2,13 @@
 use Prim.Native.Nat.{ℕ, _≤_}
 use mathlib.Core.Bool.{Bool, true, false, cond}
 use mathlib.Core.List.{List, [], _∷_}
-use mathlib.Core.Path.{_≡_, refl}
+use mathlib.Core.Path.{_≡_, refl, sym, ap, _∙_}
 use native.Mathlib.Omega.{arith}
 use borrow.Author.Tests.{le-leb, lt-leb, ne-eqb}
 use lib.IntN.{ℤ}
-use lib.ListN.{length}
-use Rattle.text.specs.Fields.{fieldsOf}
+use lib.ListN.{length, getD}
 use Rattle.text.specs.Words.{sameBytes, placeOf}
+use Rattle.text.proofs.Counted.{two-of, three-of}
 use Rattle.numeral.specs.Integer.{largestId, integerOf, signedAs, counterOf}
 use Rattle.numeral.specs.declared.Natural.{Natural}
 use Rattle.numeral.specs.declared.Natural.the-variants.{Value as NaturalValue, Bad as NaturalBad}
@@ -17,7 +17,6 @@ use Rattle.numeral.specs.declared.Signed.the-variants.{Value as SignedValue, Ba
 use Rattle.shape.specs.declared.Edition.{Edition}
 use Rattle.shape.specs.declared.Edition.the-variants.{V13, V14}
 use Rattle.heads.specs.Heads.{labelNames, isV14, setValue, incrementValue, labelValue, labelHead, labelFields, labelOf, isName, extensionNames, extensionWord, extensionHead, extensionFields, extensionOf, wordNumberOf}
-use Rattle.heads.specs.Inside.{TwoAre, ThreeAre, partOf}
 use Rattle.heads.specs.declared.Head.the-variants.{Label, Extension, Bad}
 
 -- ---- a label's value
@@ -94,16 +93,15 @@ module _ (word name number : List ℕ) where
       unfolding extensionFields extensionHead
       extension-read type g code k = rw (e, f, ← p, g, ← k)
 
--- ---- a line that has its number of fields, and one that has not
-module _ (line : List ℕ) (a b c d e f : ℕ) (t : ThreeAre line a b c d e f) where
-  pub label-three : (edition : Edition) (increment : Bool)
-      → labelFields edition increment (partOf line a b) (partOf line c d) (partOf line e f) ≡ labelOf edition increment (fieldsOf line)
+-- ---- a line of three fields, f, g and h; and one of another number of them
+module _ (fs : List (List ℕ)) (n : length fs ≡ 3) (f g h : List ℕ) (p : f ≡ getD fs 0 []) (q : g ≡ getD fs 1 []) (r : h ≡ getD fs 2 []) where
+  pub label-three : (edition : Edition) (increment : Bool) → labelFields edition increment f g h ≡ labelOf edition increment fs
   unfolding labelOf
-  label-three edition increment = rw (t .fields)
+  label-three edition increment = rw (p, q, r) (ap (labelOf edition increment) (sym (three-of [] fs n)))
 
-  pub extension-three : extensionFields (partOf line a b) (partOf line c d) (partOf line e f) ≡ extensionOf (fieldsOf line)
+  pub extension-three : extensionFields f g h ≡ extensionOf fs
   unfolding extensionOf
-  extension-three = rw (t .fields)
+  extension-three = rw (p, q, r) (ap extensionOf (sym (three-of [] fs n)))
 
 pub label-other : (edition : Edition) (increment : Bool) (fs : List (List ℕ)) → (length fs ≡ 3 → ⊥) → Bad ≡ labelOf edition increment fs
 unfolding labelOf
@@ -123,14 +121,16 @@ extension-other (f ∷ g ∷ h ∷ k ∷ fs) n = refl
 
 -- ---- a word and a number
 module _ (word : List ℕ) (low high : ℕ) where
-  module _ (line : List ℕ) (a b c d : ℕ) (t : TwoAre line a b c d) where
-    pub number-read : sameBytes (partOf line a b) word ≡ true → integerOf low high (partOf line c d) ≡ wordNumberOf word low high (fieldsOf line)
+  module _ (fs : List (List ℕ)) (n : length fs ≡ 2) (f : List ℕ) (p : f ≡ getD fs 0 []) where
+    two : wordNumberOf word low high fs ≡ cond (sameBytes f word) (integerOf low high (getD fs 1 [])) NaturalBad
     unfolding wordNumberOf
-    number-read e = rw (t .fields, e)
+    two = ap (wordNumberOf word low high) (two-of [] fs n) ∙ rw p
 
-    pub number-other-word : sameBytes (partOf line a b) word ≡ false → NaturalBad ≡ wordNumberOf word low high (fieldsOf line)
-    unfolding wordNumberOf
-    number-other-word e = rw (t .fields, e)
+    pub number-other-word : sameBytes f word ≡ false → NaturalBad ≡ wordNumberOf word low high fs
+    number-other-word e = rw (two, e)
+
+    pub number-read : sameBytes f word ≡ true → (g : List ℕ) → g ≡ getD fs 1 [] → integerOf low high g ≡ wordNumberOf word low high fs
+    number-read e g q = rw (two, e, q)
 
   pub number-other : (fs : List (List ℕ)) → (length fs ≡ 2 → ⊥) → NaturalBad ≡ wordNumberOf word low high fs
   unfolding wordNumberOf

@@ -1,5 +1,4 @@
 -- The laws of lines that have a form of their own, and what several proofs use.
-pub mod Counted
 pub mod Names
 pub mod Forms
 pub mod Ranges

@@ -1,14 +1,15 @@
 -- What a line that was read holds is in its range. Assumes nothing.
-use Prim.Native.Nat.{ℕ, suc, _+_, _≤_}
+use Prim.Native.Nat.{ℕ, _≤_}
 use mathlib.Core.Bool.{Bool, true, false, cond, _&&_}
 use mathlib.Core.List.{List, [], _∷_}
 use mathlib.Core.Path.{_≡_, refl, _∙_}
 use native.Mathlib.Omega.{arith}
 use lib.Dec.{leb, eqb}
 use lib.IntN.{ℤ, natAbs}
-use lib.ListN.{length, drop}
-use Rattle.text.specs.Words.{sameBytes, placeFrom, placeOf}
+use lib.ListN.{drop}
+use Rattle.text.specs.Words.{sameBytes, placeOf}
 use Rattle.text.proofs.Cases.{cond-yes}
+use Rattle.text.proofs.Words.{place-le}
 use Rattle.signed.proofs.Sign.{size-signed}
 use Rattle.numeral.specs.Digits.{isMinus}
 use Rattle.numeral.specs.Integer.{largestId, integerOf, signedAs, counterOf}
@@ -22,23 +23,14 @@ use Rattle.heads.specs.Heads.{labelNames, isV14, setValue, incrementValu
 use Rattle.heads.specs.declared.Head.the-variants.{Label, Extension, Bad}
 use Rattle.heads.proofs.Forms.{value-unknown}
 
--- ---- a place in a list is at most its length
-place-most : (n : ℕ) (vs : List (List ℕ)) (w : List ℕ) → placeFrom n vs w ≤ n + length vs
-unfolding placeFrom
-place-most n [] w = omega arith
-place-most n (v ∷ vs) w = go (sameBytes v w) (place-most (suc n) vs w)
-  where
-    go : (b : Bool) → placeFrom (suc n) vs w ≤ suc n + length vs → cond b (suc n) (placeFrom (suc n) vs w) ≤ n + suc (length vs)
-    go true h = omega arith
-    go false h = omega arith
-
+-- ---- a name's place in its list
 label-most : (w : List ℕ) → placeOf labelNames w ≤ 13
 unfolding labelNames
-label-most w = place-most 0 labelNames w
+label-most w = place-le labelNames w
 
 code-most : (w : List ℕ) → placeOf extensionNames w ≤ 3
 unfolding extensionNames
-code-most w = place-most 0 extensionNames w
+code-most w = place-le extensionNames w
 
 -- ---- a value's size
 abbrev Small : Signed → Type 0

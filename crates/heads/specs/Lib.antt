@@ -1,3 +1,2 @@
--- What must be believed of lines that have a form of their own; then what the inner functions answer.
+-- What must be believed of lines that have a form of their own.
 pub mod Heads
-pub mod Inside

@@ -4,8 +4,7 @@ ghost use mathlib.Core.Bool.{false};
 ghost use Rattle.text.specs.Fields.{fieldsOf};
 ghost use Rattle.text.specs.Words.{placeOf};
 ghost use Rattle.numeral.specs.Integer.{integerOf, signedAs};
-ghost use Rattle.heads.specs.Heads.{labelNames, labelValue, labelOf, labelFields, isNameByte, allNameBytes, isName, extensionNames, extensionOf, extensionFields, wordNumberOf};
-ghost use Rattle.heads.specs.Inside.{TwoIs, ThreeIs};
+ghost use Rattle.heads.specs.Heads.{labelNames, labelValue, labelOf, labelFields, isNameByte, isName, extensionNames, extensionOf, extensionFields, wordNumberOf};
 use numeral::Natural;
 use numeral::Signed;
 use shape::Edition;
@@ -18,70 +17,6 @@ pub enum Head {
     Label(u64, i64, usize),
     Extension(u64, usize),
     Bad,
-}
-
-// Where the fields of a line of two stand, or that it has another number of them.
-enum Two {
-    Fields(usize, usize, usize, usize),
-    Other,
-}
-
-// Where the fields of a line of three stand, or that it has another number of them.
-enum Three {
-    Fields(usize, usize, usize, usize, usize, usize),
-    Other,
-}
-
-// The fields of a line that has two.
-fn two_fields(line: &[u8]) -> Two
-    ensures { λ r. ⌜ TwoIs (now (line .entry)) r ⌝ }
-{
-    let first = text::next_field(line, 0);
-    let a = first.start;
-    let b = first.stop;
-    if line.len() <= a {
-        return Two::Other;
-    }
-    let second = text::next_field(line, b);
-    let c = second.start;
-    let d = second.stop;
-    if line.len() <= c {
-        return Two::Other;
-    }
-    let rest = text::next_field(line, d);
-    if rest.start < line.len() {
-        return Two::Other;
-    }
-    Two::Fields(a, b, c, d)
-}
-
-// The fields of a line that has three.
-fn three_fields(line: &[u8]) -> Three
-    ensures { λ r. ⌜ ThreeIs (now (line .entry)) r ⌝ }
-{
-    let first = text::next_field(line, 0);
-    let a = first.start;
-    let b = first.stop;
-    if line.len() <= a {
-        return Three::Other;
-    }
-    let second = text::next_field(line, b);
-    let c = second.start;
-    let d = second.stop;
-    if line.len() <= c {
-        return Three::Other;
-    }
-    let third = text::next_field(line, d);
-    let e = third.start;
-    let f = third.stop;
-    if line.len() <= e {
-        return Three::Other;
-    }
-    let rest = text::next_field(line, f);
-    if rest.start < line.len() {
-        return Three::Other;
-    }
-    Three::Fields(a, b, c, d, e, f)
 }
 
 // A number with no sign, from 0 to `most`.
@@ -147,16 +82,16 @@ fn label_in(edition: Edition, increment: bool, id: &[u8], value: &[u8], name: &[
 pub fn read_label(edition: Edition, increment: bool, line: &[u8]) -> Head
     ensures { λ r. ⌜ r ≡ labelOf edition increment (fieldsOf (now (line .entry))) ⌝ }
 {
-    match three_fields(line) {
-        Three::Fields(a, b, c, d, e, f) => label_in(
-            edition,
-            increment,
-            &line[a..b],
-            &line[c..d],
-            &line[e..f],
-        ),
-        Three::Other => Head::Bad,
+    if text::field_count(line) != 3 {
+        return Head::Bad;
     }
+    label_in(
+        edition,
+        increment,
+        text::field(line, 0),
+        text::field(line, 1),
+        text::field(line, 2),
+    )
 }
 
 // A letter, a digit or an underscore.
@@ -231,23 +166,25 @@ fn extension_in(word: &[u8], name: &[u8], number: &[u8]) -> Head
 pub fn read_extension(line: &[u8]) -> Head
     ensures { λ r. ⌜ r ≡ extensionOf (fieldsOf (now (line .entry))) ⌝ }
 {
-    match three_fields(line) {
-        Three::Fields(a, b, c, d, e, f) => extension_in(&line[a..b], &line[c..d], &line[e..f]),
-        Three::Other => Head::Bad,
+    if text::field_count(line) != 3 {
+        return Head::Bad;
     }
+    extension_in(
+        text::field(line, 0),
+        text::field(line, 1),
+        text::field(line, 2),
+    )
 }
 
 // A line of a word and a number in a range, as `shape_id N` and `num_samples N`.
 pub fn read_word_number(line: &[u8], word: &[u8], low: u64, high: u64) -> Natural
     ensures { λ r. ⌜ r ≡ wordNumberOf (now (word .entry)) low high (fieldsOf (now (line .entry))) ⌝ }
 {
-    match two_fields(line) {
-        Two::Fields(a, b, c, d) => {
-            if text::same(&line[a..b], word) {
-                return numeral::read_integer(&line[c..d], low, high);
-            }
-            Natural::Bad
-        }
-        Two::Other => Natural::Bad,
+    if text::field_count(line) != 2 {
+        return Natural::Bad;
     }
+    if !text::same(text::field(line, 0), word) {
+        return Natural::Bad;
+    }
+    numeral::read_integer(text::field(line, 1), low, high)
 }

@@ -5,6 +5,7 @@ pub mod Cut
 pub mod Marks
 pub mod Lines
 pub mod Fields
+pub mod Counted
 pub mod Words
 pub mod Over
 pub mod Visible
