@@ -96,18 +96,10 @@ enum State {
 fn field_item(line: &[u8]) -> Item
     ensures { λ r. ⌜ r ≡ fieldsItem (fieldsOf (now (line .entry))) ⌝ }
 {
-    let first = text::next_field(line, 0);
-    let start = first.start;
-    let stop = first.stop;
-    if line.len() <= start {
+    if text::field_count(line) != 1 {
         return Item::Bad;
     }
-    let second = text::next_field(line, stop);
-    let rest = second.start;
-    if rest < line.len() {
-        return Item::Bad;
-    }
-    match numeral::read_decimal(&line[start..stop]) {
+    match numeral::read_decimal(text::field(line, 0)) {
         Number::Value(d) => Item::Value(d),
         Number::Bad => Item::Bad,
     }
