@@ -1,10 +1,10 @@
 -- What the inner functions answer. Nothing here needs to be believed: laws lead from these to the definitions of the other files.
-use Prim.Native.Nat.{ℕ, suc, _+_, _*_, _^_, _≤_, _<_}
+use Prim.Native.Nat.{ℕ, _+_, _*_, _≤_, _<_}
 use mathlib.Core.Bool.{Bool, true, false, cond}
 use mathlib.Core.List.{List, [], _∷_}
 use mathlib.Core.Path.{_≡_}
 use lib.Dec.{eqb}
-use lib.IntN.{ℤ, natAbs}
+use lib.IntN.{ℤ}
 use lib.ListN.{length, drop, take, set}
 use Rattle.text.specs.Lines.{linesOf}
 use Rattle.signed.specs.declared.Sum.{Sum}
