@@ -71,9 +71,9 @@ rowWidth = 12
 abbrev pub blank : List ℤ
 blank = replicate rowWidth (pos 0)
 
-unfoldable pub padded : Form → List ℤ → List ℤ
-padded form vs = sets blank 0 (pos (formNumber form) ∷ vs)
+unfoldable pub padded : ℕ → List ℤ → List ℤ
+padded kind vs = sets blank 0 (pos kind ∷ vs)
 
 unfoldable pub rowIs : Form → Option (List ℤ) → Row
 rowIs form none = record { good = false; cells = blank }
-rowIs form (some vs) = record { good = true; cells = padded form vs }
+rowIs form (some vs) = record { good = true; cells = padded (formNumber form) vs }

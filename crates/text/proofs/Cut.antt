@@ -309,6 +309,17 @@ body-le (c ∷ s) = go (isBlank c && eqb (bodyLen s) 0) (body-le s)
     go true h = omega arith
     go false h = omega arith
 
+-- a field stops within the line, also where there is none
+pub field-inside : (line : List ℕ) (at : ℕ) (r : Part) → r ≡ fieldAt line at → at ≤ length line → r .stop ≤ length line
+unfolding fieldAt skipped
+field-inside line at r p h =
+    let e : r .stop ≡ at + blankLen (drop at line) + wordLen (drop (at + blankLen (drop at line)) line) = ap (λ (x : Part). x .stop) p in
+    let b = blank-le (drop at line) in
+    let l = length-drop at line in
+    let w = word-le (drop (at + blankLen (drop at line)) line) in
+    let m = length-drop (at + blankLen (drop at line)) line in
+    omega arith
+
 -- what stands from a place on, trimmed
 pub record TrimAt (line : List ℕ) (at : ℕ) (r : Part) : Type 0 where
   pub later : at ≤ r .start

@@ -1,0 +1,247 @@
+-- One line where a file stands. "Then 2 to 5 line by line: the first faulty line answers, with its lowest number."
+use Prim.Native.Nat.{ℕ, _+_, min}
+use mathlib.Core.Bool.{Bool, true, false, cond, not, _&&_}
+use mathlib.Core.List.{List, [], _∷_}
+use lib.Dec.{eqb}
+use lib.IntN.{ℤ, pos}
+use lib.ListN.{getD, set, replicate}
+use Rattle.text.specs.Fields.{fieldsOf}
+use Rattle.text.specs.Marks.{markOf, breaksLine}
+use Rattle.text.specs.Words.{sameBytes}
+use Rattle.text.specs.declared.Mark.{Mark}
+use Rattle.text.specs.declared.Mark.the-variants.{Blank, Comment, Section as SectionLine, Plain}
+use Rattle.signed.specs.Signed.{largest}
+use Rattle.numeral.specs.Integer.{largestId}
+use Rattle.numeral.specs.declared.Natural.{Natural}
+use Rattle.numeral.specs.declared.Natural.the-variants.{Value as NaturalValue, Bad as NaturalBad}
+use Rattle.shape.specs.Stored.{itemOf}
+use Rattle.shape.specs.declared.Item.{Item}
+use Rattle.shape.specs.declared.Item.the-variants.{Value as ItemValue, Skipped, Bad as ItemBad}
+use Rattle.shape.specs.declared.Edition.{Edition}
+use Rattle.shape.specs.declared.Edition.the-variants.{V13, V14}
+use Rattle.columns.specs.Columns.{columnsOf, mostOf}
+use Rattle.columns.specs.Rows.{rowFrom, blank, padded, rowIs}
+use Rattle.columns.specs.declared.Form.{Form}
+use Rattle.columns.specs.declared.Form.the-variants.{Entry, Trigger}
+use Rattle.columns.specs.declared.Kind.the-variants.{Count}
+use Rattle.columns.specs.declared.Row.{Row}
+use Rattle.heads.specs.Heads.{labelOf, extensionOf, extensionWord, wordNumberOf}
+use Rattle.heads.specs.declared.Head.{Head as HeadLine}
+use Rattle.heads.specs.declared.Head.the-variants.{Label, Extension, Bad as HeadBad}
+use Rattle.grammar.specs.Sections.{sectionNo, hasSection, placeIn}
+use Rattle.grammar.specs.Definitions.{isDefinition}
+use Rattle.grammar.specs.declared.Due.{Due}
+use Rattle.grammar.specs.declared.Due.the-variants.{Major, Minor, Revision}
+use Rattle.grammar.specs.declared.Lines.{Lines}
+use Rattle.grammar.specs.declared.Lines.the-variants.{None, Definitions, Rows, Shapes}
+use Rattle.grammar.specs.declared.Listed.{Listed}
+use Rattle.grammar.specs.declared.Listed.the-variants.{Entries, Triggers, Labels, Unknown}
+use Rattle.grammar.specs.declared.Place.{Place}
+use Rattle.grammar.specs.declared.Place.the-variants.{Start, Version, Section, Extensions, Head, Values, Signature}
+use Rattle.grammar.specs.declared.Fault.{Fault}
+use Rattle.grammar.specs.declared.Fault.the-variants.{Line as LineFault, Version as VersionFault, Section as SectionFault, Field as FieldFault}
+use Rattle.grammar.specs.declared.Found.{Found}
+use Rattle.grammar.specs.declared.Found.the-variants.{Nothing, Row as FoundRow, Definition, Fault as FoundFault}
+use Rattle.grammar.specs.declared.State.{State}
+use Rattle.grammar.specs.declared.Stepped.{Stepped}
+
+-- ---- "2 LINE, 3 VERSION, 4 SECTION, 5 FIELD"
+abbrev pub faultNumber : Fault → ℕ
+faultNumber LineFault = 2
+faultNumber VersionFault = 3
+faultNumber SectionFault = 4
+faultNumber FieldFault = 5
+
+-- ---- What a line may give: nothing, a fault, a definition, or a row with its line
+abbrev pub wentOf : State → Stepped
+wentOf next = record { found = Nothing; line = 0; cells = blank; next = next }
+
+abbrev pub refusedOf : State → Fault → Stepped
+refusedOf st fault = record { found = FoundFault fault; line = 0; cells = blank; next = st }
+
+abbrev pub definedOf : State → Stepped
+definedOf next = record { found = Definition; line = 0; cells = blank; next = next }
+
+abbrev pub gaveOf : State → ℕ → List ℤ → Stepped
+gaveOf next line cells = record { found = FoundRow; line = line; cells = cells; next = next }
+
+abbrev pub movedOf : State → Place → State
+movedOf st place = record { place = place; edition = st .edition; seen = st .seen; samples = st .samples }
+
+-- ---- Before the first line; the edition is the one of VERSION from there on
+abbrev pub fresh : State
+fresh = record { place = Start; edition = V13; seen = replicate 12 false; samples = 0 }
+
+-- ---- "A row due when the file ends answers its number"
+abbrev pub endingOf : Place → Found
+endingOf Start = FoundFault VersionFault
+endingOf (Version due) = FoundFault VersionFault
+endingOf (Section lines) = Nothing
+endingOf (Extensions listed) = Nothing
+endingOf (Head id n) = FoundFault FieldFault
+endingOf Values = Nothing
+endingOf Signature = Nothing
+
+-- ---- "Blank lines count only in shapes."
+unfoldable pub blankStep : State → Place → Stepped
+blankStep st Start = wentOf st
+blankStep st (Version due) = wentOf st
+blankStep st (Section lines) = wentOf st
+blankStep st (Extensions listed) = wentOf st
+blankStep st (Head id n) = refusedOf st FieldFault
+blankStep st Values = wentOf (movedOf st (Section Shapes))
+blankStep st Signature = wentOf st
+
+-- ---- SECTION: "unknown, repeated, not of this edition, or after `[SIGNATURE]`". VERSION: "first line that counts is not `[VERSION]`"
+unfoldable pub mayEnter : State → ℕ → Bool
+mayEnter st k = hasSection (st .edition) k && not (getD (st .seen) k false)
+
+abbrev pub entered : State → ℕ → Place → State
+entered st k place = record { place = place; edition = st .edition; seen = set (st .seen) k true; samples = st .samples }
+
+unfoldable pub enterOf : State → ℕ → Stepped
+enterOf st k = cond (mayEnter st k) (wentOf (entered st k (placeIn k))) (refusedOf st SectionFault)
+
+unfoldable pub earlySection : State → ℕ → Stepped
+earlySection st k = cond (mayEnter st k) (refusedOf st FieldFault) (refusedOf st SectionFault)
+
+unfoldable pub sectionAt : State → ℕ → Place → Stepped
+sectionAt st k Start = cond (eqb k 1) (wentOf (entered st 1 (Version Major))) (refusedOf st VersionFault)
+sectionAt st k (Version due) = refusedOf st VersionFault
+sectionAt st k (Section lines) = enterOf st k
+sectionAt st k (Extensions listed) = enterOf st k
+sectionAt st k (Head id n) = earlySection st k
+sectionAt st k Values = enterOf st k
+sectionAt st k Signature = refusedOf st SectionFault
+
+unfoldable pub sectionStep : State → List ℕ → Stepped
+sectionStep st line = sectionAt st (sectionNo line) (st .place)
+
+-- ---- VERSION: "`major`, `minor`, `revision`, alone and in this order, give no version above; the first number that rules out all four answers"
+unfoldable pub majorWord : List ℕ
+majorWord = 109 ∷ 97 ∷ 106 ∷ 111 ∷ 114 ∷ []
+
+unfoldable pub minorWord : List ℕ
+minorWord = 109 ∷ 105 ∷ 110 ∷ 111 ∷ 114 ∷ []
+
+unfoldable pub revisionWord : List ℕ
+revisionWord = 114 ∷ 101 ∷ 118 ∷ 105 ∷ 115 ∷ 105 ∷ 111 ∷ 110 ∷ []
+
+unfoldable pub versionRow : State → State → Natural → Stepped
+versionRow st next (NaturalValue v) = wentOf next
+versionRow st next NaturalBad = refusedOf st VersionFault
+
+-- 3 or 4
+unfoldable pub editionOf : ℕ → Edition
+editionOf minor = cond (eqb minor 3) V13 V14
+
+unfoldable pub minorRow : State → Natural → Stepped
+minorRow st (NaturalValue v) = wentOf (record { place = Version Revision; edition = editionOf v; seen = st .seen; samples = st .samples })
+minorRow st NaturalBad = refusedOf st VersionFault
+
+unfoldable pub versionStep : State → List (List ℕ) → Due → Stepped
+versionStep st fields Major = versionRow st (movedOf st (Version Minor)) (wordNumberOf majorWord 1 1 fields)
+versionStep st fields Minor = minorRow st (wordNumberOf minorWord 3 4 fields)
+versionStep st fields Revision = versionRow st (movedOf st (Section None)) (wordNumberOf revisionWord 0 1 fields)
+
+-- ---- Definitions
+unfoldable pub definitionStep : State → List ℕ → Stepped
+definitionStep st line = cond (isDefinition line) (definedOf st) (refusedOf st FieldFault)
+
+-- ---- Rows by their columns
+unfoldable pub givenRow : State → ℕ → Row → Stepped
+givenRow st n row = cond (row .good) (gaveOf st n (row .cells)) (refusedOf st FieldFault)
+
+unfoldable pub rowStep : State → ℕ → Form → List (List ℕ) → Stepped
+rowStep st n form fields = givenRow st n (rowIs form (rowFrom (columnsOf (st .edition) form) fields))
+
+-- ---- "EXTENSIONS id, type, ref, next, until a line `extension NAME type`, whose rows follow." "8 extension (type; 0 unknown, 1 TRIGGERS, 2
+-- LABELSET, 3 LABELINC)", "10 label (id, 0 set or 1 increment, value, label 1 to 13 as listed)"
+unfoldable pub labelRow : State → ℕ → Bool → HeadLine → Stepped
+labelRow st n increment (Label id value label) = gaveOf st n (padded 10 (pos id ∷ pos (cond increment 1 0) ∷ value ∷ pos label ∷ []))
+labelRow st n increment (Extension type code) = refusedOf st FieldFault
+labelRow st n increment HeadBad = refusedOf st FieldFault
+
+unfoldable pub labelStep : State → ℕ → Bool → List (List ℕ) → Stepped
+labelStep st n increment fields = labelRow st n increment (labelOf (st .edition) increment fields)
+
+-- "Another NAME is an unknown extension: its lines skipped"
+unfoldable pub listedOf : ℕ → Listed
+listedOf code = cond (eqb code 1) Triggers (cond (eqb code 2) (Labels false) (cond (eqb code 3) (Labels true) Unknown))
+
+unfoldable pub extensionRow : State → ℕ → HeadLine → Stepped
+extensionRow st n (Extension type code) = gaveOf (movedOf st (Extensions (listedOf code))) n (padded 8 (pos type ∷ pos code ∷ []))
+extensionRow st n (Label id value label) = refusedOf st FieldFault
+extensionRow st n HeadBad = refusedOf st FieldFault
+
+unfoldable pub extensionStep : State → ℕ → List (List ℕ) → Stepped
+extensionStep st n fields = extensionRow st n (extensionOf fields)
+
+unfoldable pub isExtension : List (List ℕ) → Bool
+isExtension fields = sameBytes (getD fields 0 []) extensionWord
+
+unfoldable pub listedStep : State → ℕ → List (List ℕ) → Listed → Stepped
+listedStep st n fields Entries = rowStep st n Entry fields
+listedStep st n fields Triggers = rowStep st n Trigger fields
+listedStep st n fields (Labels increment) = labelStep st n increment fields
+listedStep st n fields Unknown = wentOf st
+
+unfoldable pub extensionsStep : State → ℕ → List (List ℕ) → Listed → Stepped
+extensionsStep st n fields listed = cond (isExtension fields) (extensionStep st n fields) (listedStep st n fields listed)
+
+-- ---- "A shape is `shape_id N`, the next noncomment line `num_samples N`, then one decimal a line to a blank line, a section or the end". "11 shape
+-- (id, num_samples, first sample's place from 0)"
+unfoldable pub shapeIdWord : List ℕ
+shapeIdWord = 115 ∷ 104 ∷ 97 ∷ 112 ∷ 101 ∷ 95 ∷ 105 ∷ 100 ∷ []
+
+unfoldable pub numSamplesWord : List ℕ
+numSamplesWord = 110 ∷ 117 ∷ 109 ∷ 95 ∷ 115 ∷ 97 ∷ 109 ∷ 112 ∷ 108 ∷ 101 ∷ 115 ∷ []
+
+unfoldable pub headRow : State → ℕ → Natural → Stepped
+headRow st n (NaturalValue id) = wentOf (movedOf st (Head (pos id) n))
+headRow st n NaturalBad = refusedOf st FieldFault
+
+unfoldable pub headStep : State → ℕ → List (List ℕ) → Stepped
+headStep st n fields = headRow st n (wordNumberOf shapeIdWord 1 largestId fields)
+
+-- counting samples stops at the largest number that a row can hold, which no file that is not BIG comes near
+unfoldable pub countedOf : State → ℕ → State
+countedOf st num = record { place = Values; edition = st .edition; seen = st .seen; samples = min (st .samples + num) largest }
+
+unfoldable pub countRow : State → ℤ → ℕ → Natural → Stepped
+countRow st id n (NaturalValue num) = gaveOf (countedOf st num) n (padded 11 (id ∷ pos num ∷ pos (min (st .samples) largest) ∷ []))
+countRow st id n NaturalBad = refusedOf st FieldFault
+
+unfoldable pub countStep : State → ℤ → ℕ → List (List ℕ) → Stepped
+countStep st id n fields = countRow st id n (wordNumberOf numSamplesWord 1 (mostOf Count) fields)
+
+unfoldable pub valueRow : State → Item → Stepped
+valueRow st (ItemValue d) = wentOf st
+valueRow st Skipped = wentOf st
+valueRow st ItemBad = refusedOf st FieldFault
+
+-- ---- A line that is no comment, not blank and no section line
+unfoldable pub linesStep : State → ℕ → List ℕ → Lines → Stepped
+linesStep st n line None = refusedOf st VersionFault
+linesStep st n line Definitions = definitionStep st line
+linesStep st n line (Rows form) = rowStep st n form (fieldsOf line)
+linesStep st n line Shapes = headStep st n (fieldsOf line)
+
+unfoldable pub plainStep : State → ℕ → List ℕ → Place → Stepped
+plainStep st n line Start = refusedOf st VersionFault
+plainStep st n line (Version due) = versionStep st (fieldsOf line) due
+plainStep st n line (Section lines) = linesStep st n line lines
+plainStep st n line (Extensions listed) = extensionsStep st n (fieldsOf line) listed
+plainStep st n line (Head id m) = countStep st id m (fieldsOf line)
+plainStep st n line Values = valueRow st (itemOf line)
+plainStep st n line Signature = wentOf st
+
+-- ---- Line n where a file stands
+unfoldable pub markedStep : State → ℕ → List ℕ → Mark → Stepped
+markedStep st n line Comment = wentOf st
+markedStep st n line Blank = blankStep st (st .place)
+markedStep st n line SectionLine = sectionStep st line
+markedStep st n line Plain = plainStep st n line (st .place)
+
+unfoldable pub stepOf : State → ℕ → List ℕ → Stepped
+stepOf st n line = cond (breaksLine line) (refusedOf st LineFault) (markedStep st n line (markOf line))
