@@ -1,0 +1,27 @@
+-- What the inner functions answer. Nothing here needs to be believed: laws lead from these to the definitions of the other files.
+use Prim.Native.Nat.{ℕ}
+use mathlib.Core.List.{List}
+use mathlib.Core.Path.{_≡_}
+use lib.IntN.{ℤ}
+use lib.ListN.{length}
+use Rattle.grammar.specs.declared.Found.{Found}
+use Rattle.grammar.specs.declared.Found.the-variants.{Nothing, Row, Definition, Fault as FoundFault}
+use Rattle.file.specs.Rows.{Placed, rowsOf, laidRows, scannedOf}
+use Rattle.file.specs.declared.Scanned.{Scanned}
+
+-- how many rows a line gives
+abbrev pub rowCount : Found → ℕ
+rowCount Nothing = 0
+rowCount Row = 1
+rowCount Definition = 0
+rowCount (FoundFault fault) = 0
+
+-- some rows laid over a table from row k on; r is how many they are
+pub record Laid (rs : List Placed) (k r : ℕ) (table table′ : List ℤ) : Type 0 where
+  pub count : r ≡ length rs
+  pub rows : table′ ≡ laidRows table k rs
+
+-- what reading all lines answers, and what it leaves in the lent table
+pub record Scanning (file : List ℕ) (r : Scanned) (table table′ : List ℤ) : Type 0 where
+  pub answer : r ≡ scannedOf file
+  pub rows : table′ ≡ laidRows table 0 (rowsOf file)
