@@ -2,5 +2,6 @@
 pub mod Walking
 pub mod Laying
 pub mod Reading
+pub mod Ranges
 pub mod Seeking
 pub mod Stored

@@ -2,3 +2,4 @@
 pub mod Sections
 pub mod Definitions
 pub mod Steps
+pub mod Ranges
