@@ -5,3 +5,4 @@ pub mod Reading
 pub mod Ranges
 pub mod Seeking
 pub mod Stored
+pub mod Examples
