@@ -72,7 +72,7 @@ whole-absent Decimal e = refl
 whole-absent Dwell e = refl
 whole-absent Absent e = sym e
 
-whole-width : (k : Kind) → isWhole k ≡ true → widthOf k ≡ 1
+pub whole-width : (k : Kind) → isWhole k ≡ true → widthOf k ≡ 1
 whole-width Id e = refl
 whole-width Reference e = refl
 whole-width Required e = refl
@@ -84,15 +84,15 @@ whole-width Decimal e = absurd (let z : _≡_ {A = ℕ} 0 1 = cc in omega arith)
 whole-width Dwell e = refl
 whole-width Absent e = refl
 
-texts-whole : (k : Kind) (ks : List Kind) (v : ℤ) (vs : List ℤ) → isWhole k ≡ true → textsOf (k ∷ ks) (v ∷ vs) ≡ fieldText k (v ∷ vs) ∷ textsOf ks vs
+pub texts-whole : (k : Kind) (ks : List Kind) (v : ℤ) (vs : List ℤ) → isWhole k ≡ true → textsOf (k ∷ ks) (v ∷ vs) ≡ fieldText k (v ∷ vs) ∷ textsOf ks vs
 unfolding textsOf
 texts-whole k ks v vs e = rw (whole-absent k e, whole-width k e)
 
-texts-pair : (ks : List Kind) (m e : ℤ) (vs : List ℤ) → textsOf (Decimal ∷ ks) (m ∷ e ∷ vs) ≡ fieldText Decimal (m ∷ e ∷ vs) ∷ textsOf ks vs
+pub texts-pair : (ks : List Kind) (m e : ℤ) (vs : List ℤ) → textsOf (Decimal ∷ ks) (m ∷ e ∷ vs) ≡ fieldText Decimal (m ∷ e ∷ vs) ∷ textsOf ks vs
 unfolding textsOf
 texts-pair ks m e vs = refl
 
-texts-absent : (ks : List Kind) (v : ℤ) (vs : List ℤ) → textsOf (Absent ∷ ks) (v ∷ vs) ≡ textsOf ks vs
+pub texts-absent : (ks : List Kind) (v : ℤ) (vs : List ℤ) → textsOf (Absent ∷ ks) (v ∷ vs) ≡ textsOf ks vs
 unfolding textsOf
 texts-absent ks v vs = refl
 

@@ -7,4 +7,5 @@ pub mod Rows
 pub mod Ranges
 pub mod Writing
 pub mod Back
+pub mod Zeros
 pub mod Examples

@@ -63,7 +63,7 @@ pub record Reading (form : Form) (line : List ℕ) (ks : List Kind) (cells : Lis
   pub rest : laid cells w (rowFrom (drop j ks) (fieldsOf (drop at line))) ≡ laid (begun form) 1 (rowFrom ks (fieldsOf line))
 
 -- the columns of every form have room behind the kind; RF fills it
-room-all : (edition : Edition) (form : Form) → 1 + widthsOf (columnsOf edition form) ≤ 12
+pub room-all : (edition : Edition) (form : Form) → 1 + widthsOf (columnsOf edition form) ≤ 12
 unfolding widthsOf columnsOf
 room-all V13 Block = omega arith
 room-all V14 Block = omega arith
