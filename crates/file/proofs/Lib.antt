@@ -5,4 +5,5 @@ pub mod Reading
 pub mod Ranges
 pub mod Seeking
 pub mod Stored
+pub mod Unique
 pub mod Examples

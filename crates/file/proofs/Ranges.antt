@@ -1,10 +1,12 @@
 -- The rows of a file without a fault are in range, by the edition that it ends with. Assumes nothing.
-use Prim.Native.Nat.{ℕ, suc}
-use mathlib.Core.Bool.{true, cond}
+use Prim.Native.Nat.{ℕ, suc, _+_, _*_, _≤_}
+use mathlib.Core.Bool.{Bool, true, false, cond, _&&_}
 use mathlib.Core.List.{List, [], _∷_, _++_}
 use mathlib.Core.Path.{_≡_, refl, sym, ap, _∙_}
 use native.Mathlib.Omega.{arith}
-use Rattle.text.specs.Lines.{linesOf}
+use lib.Dec.{eqb}
+use lib.ListN.{length}
+use Rattle.text.specs.Lines.{startsLF, onto, linesOf}
 use Rattle.shape.specs.declared.Edition.{Edition}
 use Rattle.grammar.specs.Steps.{fresh, endingOf, stepOf}
 use Rattle.grammar.specs.Ranges.{isPast}
@@ -59,3 +61,37 @@ left st fin n (l ∷ ls) h e =
 pub rows-in-range : (file : List ℕ) (st : State) → verdictOf file ≡ ended st → AllIn (st .edition) (rowsOf file)
 unfolding verdictOf rowsOf
 rows-in-range file st e = left fresh st 1 (linesOf file) tt e .rows
+
+-- ---- the samples of a file's shapes are at most 10^6 for each line, so that counting them stops in no file that is not BIG
+few-from : (st fin : State) (n : ℕ) (ls : List (List ℕ)) → HeadIn (st .place) → verdictFrom st n ls ≡ ended fin → fin .samples ≤ st .samples + 1000000 * length ls
+unfolding verdictFrom judged
+few-from st fin n [] h e = let q : st .samples ≡ fin .samples = ap (λ (x : State). x .samples) (at-end st fin (endingOf (st .place)) e) in omega arith
+few-from st fin n (l ∷ ls) h e =
+    let fine = step-fine st h n l in
+    let m = fine .few in
+    let k = few-from (stepOf st n l .next) fin (suc n) ls (fine .head) (on (stepOf st n l .found) e) in
+    omega arith
+  where
+    on : (f : Found) {v : Verdict} → judged f n v ≡ ended fin → v ≡ ended fin
+    on Nothing e = e
+    on Row e = e
+    on Definition e = e
+    on (FoundFault f) e = absurd (not-ended e)
+
+lines-few : (t : List ℕ) → length (linesOf t) ≤ length t
+unfolding linesOf onto
+lines-few [] = omega arith
+lines-few (c ∷ s) = go (eqb c 10) (eqb c 13 && startsLF s) (lines-few s)
+  where
+    onto-few : (ls : List (List ℕ)) → length ls ≤ length s → length (onto c ls) ≤ suc (length s)
+    onto-few [] h = omega arith
+    onto-few (l ∷ ls) h = let k : suc (length ls) ≤ length s = h in omega arith
+
+    go : (a b : Bool) → length (linesOf s) ≤ length s → length (cond a ([] ∷ linesOf s) (cond b (linesOf s) (onto c (linesOf s)))) ≤ suc (length s)
+    go true b h = omega arith
+    go false true h = omega arith
+    go false false h = onto-few (linesOf s) h
+
+pub samples-few : (file : List ℕ) (st : State) → verdictOf file ≡ ended st → st .samples ≤ 1000000 * length file
+unfolding verdictOf
+samples-few file st e = let k = few-from fresh st 1 (linesOf file) tt e in let m = lines-few file in omega arith

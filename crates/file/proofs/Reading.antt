@@ -15,8 +15,8 @@ use Rattle.grammar.specs.declared.Found.{Found}
 use Rattle.grammar.specs.declared.State.{State}
 use Rattle.grammar.specs.declared.Stepped.{Stepped}
 use Rattle.file.specs.Whole.{ended, judged, verdictFrom, verdictOf, isFault}
-use Rattle.file.specs.Rows.{Placed, rowAt, rowsFrom, rowsOf, laidRows, answerOf, scannedOf}
-use Rattle.file.specs.Inside.{Laid, Scanning}
+use Rattle.file.specs.Rows.{Placed, rowAt, rowsFrom, rowsOf, laidRows, answerOf, scannedOf, Scanning}
+use Rattle.file.specs.Inside.{Laid}
 use Rattle.file.specs.declared.Scanned.{Scanned}
 use Rattle.file.proofs.Walking.{Within, within-start, within-turn, verdict-turn, verdict-stop, verdict-end, gathered-turn, gathered-stop, gathered-end}
 use Rattle.file.proofs.Laying.{length-rows, laid-more, length-more, count-is, count-most}

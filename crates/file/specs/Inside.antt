@@ -6,8 +6,7 @@ use lib.IntN.{ℤ}
 use lib.ListN.{length}
 use Rattle.grammar.specs.declared.Found.{Found}
 use Rattle.grammar.specs.declared.Found.the-variants.{Nothing, Row, Definition, Fault as FoundFault}
-use Rattle.file.specs.Rows.{Placed, rowsOf, laidRows, scannedOf}
-use Rattle.file.specs.declared.Scanned.{Scanned}
+use Rattle.file.specs.Rows.{Placed, laidRows}
 
 -- how many rows a line gives
 abbrev pub rowCount : Found → ℕ
@@ -20,8 +19,3 @@ rowCount (FoundFault fault) = 0
 pub record Laid (rs : List Placed) (k r : ℕ) (table table′ : List ℤ) : Type 0 where
   pub count : r ≡ length rs
   pub rows : table′ ≡ laidRows table k rs
-
--- what reading all lines answers, and what it leaves in the lent table
-pub record Scanning (file : List ℕ) (r : Scanned) (table table′ : List ℤ) : Type 0 where
-  pub answer : r ≡ scannedOf file
-  pub rows : table′ ≡ laidRows table 0 (rowsOf file)

@@ -2,6 +2,7 @@
 use Prim.Native.Nat.{ℕ, zero, suc, _*_, _/_}
 use mathlib.Core.Bool.{false, cond}
 use mathlib.Core.List.{List, [], _∷_}
+use mathlib.Core.Path.{_≡_}
 use lib.Dec.{ltb}
 use lib.IntN.{ℤ}
 use lib.ListN.{length, getD}
@@ -51,3 +52,8 @@ answerOf (stopped fault n) rows = Fault fault n
 
 unfoldable pub scannedOf : List ℕ → Scanned
 scannedOf file = answerOf (verdictOf file) (length (rowsOf file))
+
+-- and what it leaves in the lent table: two things that determine all that reading answers and writes
+pub record Scanning (file : List ℕ) (r : Scanned) (table table′ : List ℤ) : Type 0 where
+  pub answer : r ≡ scannedOf file
+  pub rows : table′ ≡ laidRows table 0 (rowsOf file)

@@ -11,10 +11,9 @@ use Rattle.text.specs.Fields.{fieldsOf}
 use Rattle.text.specs.Marks.{markOf, breaksLine}
 use Rattle.text.specs.Words.{sameBytes}
 use Rattle.signed.specs.Signed.{largest, signedOf}
-use Rattle.numeral.specs.Integer.{largestId, integerOf}
+use Rattle.numeral.specs.Integer.{largestId}
 use Rattle.numeral.specs.declared.Natural.{Natural}
 use Rattle.numeral.specs.declared.Natural.the-variants.{Value as NaturalValue, Bad as NaturalBad}
-use Rattle.numeral.proofs.Integer.{integer-inv}
 use Rattle.numeral.proofs.Outcomes.{held-size}
 use Rattle.columns.specs.Columns.{columnsOf}
 use Rattle.columns.specs.Rows.{rowFrom, padded, rowIs}
@@ -23,7 +22,7 @@ use Rattle.columns.specs.declared.Row.{Row}
 use Rattle.heads.specs.Heads.{labelOf, extensionOf, extensionWord, wordNumberOf}
 use Rattle.heads.specs.declared.Head.{Head as HeadLine}
 use Rattle.heads.specs.declared.Head.the-variants.{Label, Extension, Bad as HeadBad}
-use Rattle.heads.proofs.Ranges.{label-range, extension-range}
+use Rattle.heads.proofs.Ranges.{label-range, extension-range, word-range}
 use Rattle.grammar.specs.Sections.{hasSection, placeIn}
 use Rattle.grammar.specs.Definitions.{valueOf, isDefinition}
 use Rattle.grammar.specs.Steps.{wentOf, refusedOf, definedOf, gaveOf, movedOf, mayEnter, entered, enterOf, earlySection, definitionStep, givenRow, rowStep, labelRow, labelStep, listedOf, extensionRow, extensionStep, isExtension, listedStep, extensionsStep, shapeIdWord, numSamplesWord, headRow, headStep, countedOf, countRow, countStep, plainStep, markedStep, stepOf}
@@ -33,9 +32,6 @@ use Rattle.grammar.specs.declared.Place.the-variants.{Extensions, Head, 
 use Rattle.grammar.specs.declared.State.{State}
 use Rattle.grammar.specs.declared.Stepped.{Stepped}
 use Rattle.grammar.specs.declared.Fault.the-variants.{Line as LineFault, Section, Field}
-
-not-value : {n : ℕ} → NaturalBad ≡ NaturalValue n → ⊥
-not-value e = let z : _≡_ {A = ℕ} 0 1 = cc in omega arith
 
 -- what a function answers of a value that is known
 pub told : {A : Type 0} (f : A → Stepped) {x y : A} {r : Stepped} → r ≡ f y → x ≡ y → r ≡ f x
@@ -148,17 +144,6 @@ module _ (st : State) (n : ℕ) (fields : List (List ℕ)) (listed : Listed) whe
   names-none e = rw e
 
 -- ---- the head of a shape
-pub word-range : (word : List ℕ) (low high : ℕ) (fields : List (List ℕ)) (n : ℕ) → wordNumberOf word low high fields ≡ NaturalValue n → (low ≤ n) × (n ≤ high)
-unfolding wordNumberOf
-word-range word low high [] n e = absurd (not-value e)
-word-range word low high (f ∷ []) n e = absurd (not-value e)
-word-range word low high (f ∷ g ∷ []) n e = go (sameBytes f word) e
-  where
-    go : (b : Bool) → cond b (integerOf low high g) NaturalBad ≡ NaturalValue n → (low ≤ n) × (n ≤ high)
-    go true e = let i = integer-inv low high g n e in (i .least, i .most)
-    go false e = absurd (not-value e)
-word-range word low high (f ∷ g ∷ h ∷ fs) n e = absurd (not-value e)
-
 module _ (st : State) (n : ℕ) (fields : List (List ℕ)) (v : Natural) (p : v ≡ wordNumberOf shapeIdWord 1 largestId fields) where
   pub head-went : (id : ℕ) → v ≡ NaturalValue id → (a : ℤ) → a ≡ signedOf false (min id largest) → (next : State) → next ≡ movedOf st (Head a n) → wentOf next ≡ headStep st n fields
   unfolding headStep headRow

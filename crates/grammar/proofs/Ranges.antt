@@ -1,5 +1,5 @@
 -- The rows that lines give are in range, and the edition stays what VERSION says. Assumes nothing.
-use Prim.Native.Nat.{ℕ, _≤_, min}
+use Prim.Native.Nat.{ℕ, _+_, _≤_, min}
 use mathlib.Core.Bool.{Bool, true, false, cond, true≢false}
 use mathlib.Core.List.{List}
 use mathlib.Core.Option.{Option, none, some}
@@ -26,7 +26,7 @@ use Rattle.columns.proofs.Ranges.{row-in-range}
 use Rattle.heads.specs.Heads.{labelOf, extensionOf, wordNumberOf}
 use Rattle.heads.specs.declared.Head.{Head as HeadLine}
 use Rattle.heads.specs.declared.Head.the-variants.{Label, Extension, Bad as HeadBad}
-use Rattle.heads.proofs.Ranges.{label-range, extension-range}
+use Rattle.heads.proofs.Ranges.{label-range, extension-range, word-range}
 use Rattle.grammar.specs.Sections.{sectionNo, placeIn}
 use Rattle.grammar.specs.Definitions.{isDefinition}
 use Rattle.grammar.specs.Steps.{wentOf, refusedOf, definedOf, gaveOf, movedOf, blankStep, mayEnter, entered, enterOf, earlySection, sectionAt, sectionStep, majorWord, minorWord, revisionWord, versionRow, editionOf, minorRow, versionStep, definitionStep, givenRow, rowStep, labelRow, labelStep, listedOf, extensionRow, extensionStep, isExtension, listedStep, extensionsStep, shapeIdWord, numSamplesWord, headRow, headStep, countedOf, countRow, countStep, valueRow, linesStep, plainStep, markedStep, stepOf}
@@ -44,7 +44,6 @@ use Rattle.grammar.specs.declared.Fault.the-variants.{Line as LineFault,
 use Rattle.grammar.specs.declared.Found.the-variants.{Nothing, Row as FoundRow, Definition, Fault as FoundFault}
 use Rattle.grammar.specs.declared.State.{State}
 use Rattle.grammar.specs.declared.Stepped.{Stepped}
-use Rattle.grammar.proofs.Answers.{word-range}
 
 -- ---- a shape whose ID was read has one in its range
 pub record IdIn (z : ℤ) : Type 0 where
@@ -69,6 +68,7 @@ pub record Fine (st : State) (r : Stepped) : Type 0 where
   pub head : HeadIn (r .next .place)
   pub same : isPast (st .place) ≡ true → r .next .edition ≡ st .edition
   pub past : isPast (st .place) ≡ true → isPast (r .next .place) ≡ true
+  pub few : r .next .samples ≤ st .samples + 1000000
 
 nothing-row : Nothing ≡ FoundRow → ⊥
 nothing-row e = let z : _≡_ {A = ℕ} 0 1 = cc in omega arith
@@ -113,23 +113,23 @@ place-past k =
 
 module _ (st : State) where
   fine-went : (next : State) → HeadIn (next .place) → (isPast (st .place) ≡ true → next .edition ≡ st .edition)
-      → (isPast (st .place) ≡ true → isPast (next .place) ≡ true) → Fine st (wentOf next)
-  fine-went next h s p = record { row = λ e. absurd (nothing-row e); known = λ e. absurd (nothing-row e); head = h; same = s; past = p }
+      → (isPast (st .place) ≡ true → isPast (next .place) ≡ true) → next .samples ≡ st .samples → Fine st (wentOf next)
+  fine-went next h s p q = record { row = λ e. absurd (nothing-row e); known = λ e. absurd (nothing-row e); head = h; same = s; past = p; few = omega arith }
 
   module _ (h : HeadIn (st .place)) where
     fine-stay : Fine st (wentOf st)
-    fine-stay = fine-went st h (λ e. refl) (λ e. e)
+    fine-stay = fine-went st h (λ e. refl) (λ e. e) refl
 
     fine-refused : (f : Fault) → Fine st (refusedOf st f)
-    fine-refused f = record { row = λ e. absurd (fault-row e); known = λ e. absurd (fault-row e); head = h; same = λ e. refl; past = λ e. e }
+    fine-refused f = record { row = λ e. absurd (fault-row e); known = λ e. absurd (fault-row e); head = h; same = λ e. refl; past = λ e. e; few = omega arith }
 
     fine-defined : Fine st (definedOf st)
-    fine-defined = record { row = λ e. absurd (definition-row e); known = λ e. absurd (definition-row e); head = h; same = λ e. refl; past = λ e. e }
+    fine-defined = record { row = λ e. absurd (definition-row e); known = λ e. absurd (definition-row e); head = h; same = λ e. refl; past = λ e. e; few = omega arith }
 
     -- a row, where the file stands behind VERSION
-    fine-gave : isPast (st .place) ≡ true → (next : State) → HeadIn (next .place) → next .edition ≡ st .edition → isPast (next .place) ≡ true → (n : ℕ) (cells : List ℤ)
+    fine-gave : isPast (st .place) ≡ true → (next : State) → HeadIn (next .place) → next .edition ≡ st .edition → isPast (next .place) ≡ true → next .samples ≤ st .samples + 1000000 → (n : ℕ) (cells : List ℤ)
         → RowIn (st .edition) cells → Fine st (gaveOf next n cells)
-    fine-gave p next k s q n cells i = record { row = λ e. i; known = λ e. p; head = k; same = λ e. s; past = λ e. q }
+    fine-gave p next k s q m n cells i = record { row = λ e. i; known = λ e. p; head = k; same = λ e. s; past = λ e. q; few = m }
 
     -- ---- blank lines and sections
     fine-enter : (k : ℕ) → Fine st (enterOf st k)
@@ -137,7 +137,7 @@ module _ (st : State) where
     fine-enter k = go (mayEnter st k)
       where
         go : (b : Bool) → Fine st (cond b (wentOf (entered st k (placeIn k))) (refusedOf st SectionFault))
-        go true = fine-went (entered st k (placeIn k)) (place-head k) (λ e. refl) (λ e. place-past k)
+        go true = fine-went (entered st k (placeIn k)) (place-head k) (λ e. refl) (λ e. place-past k) refl
         go false = fine-refused SectionFault
 
     fine-blank : (place : Place) → st .place ≡ place → Fine st (blankStep st place)
@@ -147,7 +147,7 @@ module _ (st : State) where
     fine-blank (Section lines) q = fine-stay
     fine-blank (Extensions listed) q = fine-stay
     fine-blank (Head id n) q = fine-refused FieldFault
-    fine-blank Values q = fine-went (movedOf st (Section Shapes)) tt (λ e. refl) (λ e. refl)
+    fine-blank Values q = fine-went (movedOf st (Section Shapes)) tt (λ e. refl) (λ e. refl) refl
     fine-blank Signature q = fine-stay
 
     fine-early : (k : ℕ) → Fine st (earlySection st k)
@@ -159,8 +159,8 @@ module _ (st : State) where
         go false = fine-refused SectionFault
 
     -- before VERSION's rows are read nothing is said of the edition
-    fine-before : (next : State) → HeadIn (next .place) → isPast (st .place) ≡ false → Fine st (wentOf next)
-    fine-before next k q = fine-went next k (λ e. absurd (true≢false (sym e ∙ q))) (λ e. absurd (true≢false (sym e ∙ q)))
+    fine-before : (next : State) → HeadIn (next .place) → isPast (st .place) ≡ false → next .samples ≡ st .samples → Fine st (wentOf next)
+    fine-before next k q m = fine-went next k (λ e. absurd (true≢false (sym e ∙ q))) (λ e. absurd (true≢false (sym e ∙ q))) m
 
     start-early : st .place ≡ Start → isPast (st .place) ≡ false
     unfolding isPast
@@ -175,7 +175,7 @@ module _ (st : State) where
     fine-section k Start q = go (eqb k 1)
       where
         go : (b : Bool) → Fine st (cond b (wentOf (entered st 1 (Version Major))) (refusedOf st VersionFault))
-        go true = fine-before (entered st 1 (Version Major)) tt (start-early q)
+        go true = fine-before (entered st 1 (Version Major)) tt (start-early q) refl
         go false = fine-refused VersionFault
     fine-section k (Version due) q = fine-refused VersionFault
     fine-section k (Section lines) q = fine-enter k
@@ -185,21 +185,21 @@ module _ (st : State) where
     fine-section k Signature q = fine-refused SectionFault
 
     -- ---- VERSION
-    fine-row : (next : State) → HeadIn (next .place) → isPast (st .place) ≡ false → (v : Natural) → Fine st (versionRow st next v)
+    fine-row : (next : State) → HeadIn (next .place) → isPast (st .place) ≡ false → next .samples ≡ st .samples → (v : Natural) → Fine st (versionRow st next v)
     unfolding versionRow
-    fine-row next k q (NaturalValue v) = fine-before next k q
-    fine-row next k q NaturalBad = fine-refused VersionFault
+    fine-row next k q m (NaturalValue v) = fine-before next k q m
+    fine-row next k q m NaturalBad = fine-refused VersionFault
 
     fine-minor : isPast (st .place) ≡ false → (v : Natural) → Fine st (minorRow st v)
     unfolding minorRow
-    fine-minor q (NaturalValue v) = fine-before (record { place = Version Revision; edition = editionOf v; seen = st .seen; samples = st .samples }) tt q
+    fine-minor q (NaturalValue v) = fine-before (record { place = Version Revision; edition = editionOf v; seen = st .seen; samples = st .samples }) tt q refl
     fine-minor q NaturalBad = fine-refused VersionFault
 
     fine-version : (fields : List (List ℕ)) (due : Due) → isPast (st .place) ≡ false → Fine st (versionStep st fields due)
     unfolding versionStep
-    fine-version fields Major q = fine-row (movedOf st (Version Minor)) tt q (wordNumberOf majorWord 1 1 fields)
+    fine-version fields Major q = fine-row (movedOf st (Version Minor)) tt q refl (wordNumberOf majorWord 1 1 fields)
     fine-version fields Minor q = fine-minor q (wordNumberOf minorWord 3 4 fields)
-    fine-version fields Revision q = fine-row (movedOf st (Section None)) tt q (wordNumberOf revisionWord 0 1 fields)
+    fine-version fields Revision q = fine-row (movedOf st (Section None)) tt q refl (wordNumberOf revisionWord 0 1 fields)
 
     -- ---- sections behind it
     fine-definition : (line : List ℕ) → Fine st (definitionStep st line)
@@ -223,7 +223,7 @@ module _ (st : State) where
         where
           go : (o : Option (List ℤ)) → rowFrom (columnsOf (st .edition) form) fields ≡ o → Fine st (givenRow st n (rowIs form o))
           go none e = fine-refused FieldFault
-          go (some vs) e = fine-gave p st h refl p n (padded (formNumber form) vs) (by-columns form vs (row-in-range (columnsOf (st .edition) form) fields vs e))
+          go (some vs) e = fine-gave p st h refl p (omega arith) n (padded (formNumber form) vs) (by-columns form vs (row-in-range (columnsOf (st .edition) form) fields vs e))
 
       fine-label : (n : ℕ) (increment : Bool) (fields : List (List ℕ)) → Fine st (labelStep st n increment fields)
       unfolding labelStep labelRow
@@ -236,7 +236,7 @@ module _ (st : State) where
           go : (l : HeadLine) → labelOf (st .edition) increment fields ≡ l → Fine st (labelRow st n increment l)
           go (Label id v k) e =
               let r = label-range (st .edition) increment fields id v k e in
-              fine-gave p st h refl p n _ (label id (cond increment 1 0) k v (r .0) (r .1) (flag increment) (r .2) (r .3) (r .4))
+              fine-gave p st h refl p (omega arith) n _ (label id (cond increment 1 0) k v (r .0) (r .1) (flag increment) (r .2) (r .3) (r .4))
           go (Extension type code) e = fine-refused FieldFault
           go HeadBad e = fine-refused FieldFault
 
@@ -247,7 +247,7 @@ module _ (st : State) where
           go : (l : HeadLine) → extensionOf fields ≡ l → Fine st (extensionRow st n l)
           go (Extension type code) e =
               let r = extension-range fields type code e in
-              fine-gave p (movedOf st (Extensions (listedOf code))) tt refl refl n _ (extension type code (r .0) (r .1) (r .2))
+              fine-gave p (movedOf st (Extensions (listedOf code))) tt refl refl (omega arith) n _ (extension type code (r .0) (r .1) (r .2))
           go (Label id v k) e = fine-refused FieldFault
           go HeadBad e = fine-refused FieldFault
 
@@ -273,7 +273,7 @@ module _ (st : State) where
           go : (v : Natural) → wordNumberOf shapeIdWord 1 largestId fields ≡ v → Fine st (headRow st n v)
           go (NaturalValue id) e =
               let r = word-range shapeIdWord 1 largestId fields id e in
-              fine-went (movedOf st (Head (pos id) n)) (record { id = id; same = refl; least = r .0; most = r .1 }) (λ e. refl) (λ e. refl)
+              fine-went (movedOf st (Head (pos id) n)) (record { id = id; same = refl; least = r .0; most = r .1 }) (λ e. refl) (λ e. refl) refl
           go NaturalBad e = fine-refused FieldFault
 
       fine-count : (z : ℤ) → IdIn z → (n : ℕ) (fields : List (List ℕ)) → Fine st (countStep st z n fields)
@@ -283,7 +283,7 @@ module _ (st : State) where
           go : (v : Natural) → wordNumberOf numSamplesWord 1 1000000 fields ≡ v → Fine st (countRow st z n v)
           go (NaturalValue num) e =
               let r = word-range numSamplesWord 1 1000000 fields num e in
-              fine-gave p (countedOf st num) tt refl refl n _ (rw (i .same) (shape (i .id) num (min (st .samples) largest) (i .least) (i .most) (r .0) (r .1) (omega arith)))
+              fine-gave p (countedOf st num) tt refl refl (omega (arith, r .1)) n _ (rw (i .same) (shape (i .id) num (min (st .samples) largest) (i .least) (i .most) (r .0) (r .1) (omega arith)))
           go NaturalBad e = fine-refused FieldFault
 
       fine-lines : (n : ℕ) (line : List ℕ) (lines : Lines) → Fine st (linesStep st n line lines)

@@ -19,7 +19,7 @@ use Rattle.numeral.specs.declared.Signed.{Signed}
 use Rattle.numeral.specs.declared.Signed.the-variants.{Value as SignedValue, Bad as SignedBad}
 use Rattle.numeral.proofs.Integer.{integer-inv}
 use Rattle.shape.specs.declared.Edition.{Edition}
-use Rattle.heads.specs.Heads.{labelNames, isV14, setValue, incrementValue, labelValue, labelHead, labelFields, labelOf, isName, extensionNames, extensionWord, extensionHead, extensionFields, extensionOf}
+use Rattle.heads.specs.Heads.{labelNames, isV14, setValue, incrementValue, labelValue, labelHead, labelFields, labelOf, isName, extensionNames, extensionWord, extensionHead, extensionFields, extensionOf, wordNumberOf}
 use Rattle.heads.specs.declared.Head.the-variants.{Label, Extension, Bad}
 use Rattle.heads.proofs.Forms.{value-unknown}
 
@@ -124,3 +124,17 @@ extension-range (f ∷ g ∷ h ∷ []) type code e =
     let same = from .1 in
     (i .least, i .most, omega arith)
 extension-range (f ∷ g ∷ h ∷ k ∷ fs) type code e = absurd (not-extension e)
+
+not-natural : {n : ℕ} → NaturalBad ≡ NaturalValue n → ⊥
+not-natural e = let z : _≡_ {A = ℕ} 0 1 = cc in omega arith
+
+pub word-range : (word : List ℕ) (low high : ℕ) (fields : List (List ℕ)) (n : ℕ) → wordNumberOf word low high fields ≡ NaturalValue n → (low ≤ n) × (n ≤ high)
+unfolding wordNumberOf
+word-range word low high [] n e = absurd (not-natural e)
+word-range word low high (f ∷ []) n e = absurd (not-natural e)
+word-range word low high (f ∷ g ∷ []) n e = go (sameBytes f word) e
+  where
+    go : (b : Bool) → cond b (integerOf low high g) NaturalBad ≡ NaturalValue n → (low ≤ n) × (n ≤ high)
+    go true e = let i = integer-inv low high g n e in (i .least, i .most)
+    go false e = absurd (not-natural e)
+word-range word low high (f ∷ g ∷ h ∷ fs) n e = absurd (not-natural e)

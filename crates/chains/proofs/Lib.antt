@@ -1,0 +1,2 @@
+-- The laws of extension chains.
+pub mod Following

@@ -1,0 +1,30 @@
+-- Extension chains. "LOOP: the chain from an entry, itself counted, is over 256 entries". "An extension chain is followed with a count of entries
+-- left that falls at every hop."
+use Prim.Native.Nat.{ℕ, zero, suc}
+use mathlib.Core.Bool.{Bool, true, false, cond, _&&_}
+use mathlib.Core.List.{List}
+use lib.Dec.{ltb}
+use lib.IntN.{ℤ, pos}
+use Rattle.signed.specs.Signed.{sameZ}
+use Rattle.tables.specs.Tables.{firstSuch, numberAt, classNumber, firstRow}
+use Rattle.tables.specs.declared.Class.the-variants.{Entry}
+
+-- an entry's row: kind 7, id, type, ref, next
+abbrev pub entryKind : ℕ
+entryKind = 7
+
+-- the entry that follows entry k, of n rows: 0 is none, and so is an ID that meets no row
+unfoldable pub nextEntry : List ℤ → ℕ → ℕ → ℕ
+nextEntry rows n k = cond (sameZ (numberAt rows k 4) (pos 0)) n (firstRow rows n (pos (classNumber Entry)) (numberAt rows k 4))
+
+-- whether the chain from entry k has more entries than are left to count
+unfoldable pub exceedsOf : List ℤ → ℕ → ℕ → ℕ → Bool
+exceedsOf rows n zero k = true
+exceedsOf rows n (suc left) k = cond (ltb (nextEntry rows n k) n) (exceedsOf rows n left (nextEntry rows n k)) false
+
+-- ---- LOOP, asked of one row, and the first of n rows that breaks it
+unfoldable pub loopsAt : List ℤ → ℕ → ℕ → Bool
+loopsAt rows n k = sameZ (numberAt rows k 0) (pos entryKind) && exceedsOf rows n 256 k
+
+unfoldable pub firstLoop : List ℤ → ℕ → ℕ
+firstLoop rows n = firstSuch (loopsAt rows n) 0 n

@@ -1,0 +1,2 @@
+-- What must be believed of extension chains.
+pub mod Chains

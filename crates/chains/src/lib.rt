@@ -1,0 +1,52 @@
+// Extension chains, followed entry by entry with a count of entries left.
+ghost use mathlib.Core.Path.{_≡_};
+ghost use Rattle.chains.specs.Chains.{nextEntry, exceedsOf, loopsAt, firstLoop};
+
+// The row of the entry that follows entry k; n, the number of rows, if none does.
+pub fn next_entry(rows: &[i64], n: usize, k: usize) -> usize
+    ensures { λ r. ⌜ r ≡ nextEntry (now (rows .entry)) n k ⌝ }
+{
+    let next = tables::number(rows, k, 4);
+    if signed::same(next, 0) {
+        return n;
+    }
+    tables::find(rows, n, 7, next)
+}
+
+// Has the chain from entry k more entries than are left to count?
+fn exceeds(rows: &[i64], n: usize, k: usize, left: usize) -> bool
+    ensures { λ r. ⌜ r ≡ exceedsOf (now (rows .entry)) n left k ⌝ }
+{
+    if left == 0 {
+        return true;
+    }
+    let next = next_entry(rows, n, k);
+    if next < n {
+        return exceeds(rows, n, next, left - 1);
+    }
+    false
+}
+
+// Is row k an entry whose chain is over 256 entries?
+pub fn loops(rows: &[i64], n: usize, k: usize) -> bool
+    ensures { λ r. ⌜ r ≡ loopsAt (now (rows .entry)) n k ⌝ }
+{
+    if signed::same(tables::number(rows, k, 0), 7) {
+        return exceeds(rows, n, k, 256);
+    }
+    false
+}
+
+// The first of n rows that is an entry whose chain is over 256 entries; n if none is.
+pub fn first_loop(rows: &[i64], n: usize) -> usize
+    ensures { λ r. ⌜ r ≡ firstLoop (now (rows .entry)) n ⌝ }
+{
+    let mut k: usize = 0;
+    while k < n {
+        if loops(rows, n, k) {
+            return k;
+        }
+        k += 1;
+    }
+    n
+}

@@ -1,0 +1,3 @@
+-- The laws of references.
+pub mod Classes
+pub mod Meeting

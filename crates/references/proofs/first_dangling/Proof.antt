@@ -1,0 +1,52 @@
+-- `references::first_dangling` meets its contract. The loop's invariant: the first such row is the first of those that are left. Assumes nothing.
+use Prim.Native.Nat.{_-_, _≤_}
+use mathlib.Core.Path.{_≡_, sym, _∙_}
+use native.Mathlib.Omega.{arith}
+use Rattle.tables.specs.Tables.{firstSuch}
+use Rattle.tables.proofs.Found.{such-start, such-here, such-further, such-none}
+use Rattle.references.specs.References.{danglesAt, firstDangling}
+use borrow.Author.Needs.{needs}
+use Rattle.references.proofs.first_dangling.Statement.{statement}
+use Rattle.references.proofs.first_dangling.Tie as tie
+
+abbrev Inv-loop : tie.InvT-loop
+Inv-loop edition rows n k₀ k = (k ≤ n) × (firstSuch (danglesAt edition rows n) k (n - k) ≡ firstDangling edition rows n)
+
+abbrev μ-loop : tie.MeasureT-loop
+μ-loop edition rows n k₀ k = n - k
+
+loop-holds : tie.Need-loop-holds Inv-loop μ-loop
+unfolding firstDangling
+loop-holds c = (omega arith, such-start _ _)
+
+dangles-requires : tie.Need-dangles-requires Inv-loop μ-loop
+dangles-requires c κs = search needs
+
+returns : tie.Need-returns Inv-loop μ-loop
+returns c = such-here _ _ _ (c .before .before .loop-test .taken) (sym (c .before .dangles .ensures) ∙ c .if1 .taken) ∙ c .before .before .before .loop .inv .1
+
+add-k : tie.Need-add-k Inv-loop μ-loop
+add-k c = search needs
+
+loop-less : tie.Need-loop-less Inv-loop μ-loop
+loop-less c = omega (arith, c .before .before .loop-test .taken)
+
+loop-again : tie.Need-loop-again Inv-loop μ-loop
+loop-again c = (omega (arith, c .before .before .loop-test .taken), such-further _ _ _ (c .before .before .loop-test .taken) (sym (c .before .dangles .ensures) ∙ c .if1 .left) ∙ c .before .before .before .loop .inv .1)
+
+returns-2 : tie.Need-returns-2 Inv-loop μ-loop
+returns-2 c = such-none _ _ _ (c .before .loop .inv .0) (c .loop-test .left) ∙ c .before .loop .inv .1
+
+pub first-dangling-spec : {M : Type 1} → statement M
+first-dangling-spec =
+    tie.close
+    (tie.spec
+    Inv-loop
+    μ-loop
+    loop-holds
+    dangles-requires
+    returns
+    add-k
+    loop-less
+    loop-again
+    returns-2)

@@ -1,0 +1,3 @@
+-- The laws of the table of rows.
+pub mod Numbers
+pub mod Found
