@@ -6,14 +6,12 @@ use mathlib.Core.List.{List}
 use lib.Dec.{ltb}
 use lib.IntN.{ℤ, pos}
 use Rattle.signed.specs.Signed.{sameZ}
+use Rattle.columns.specs.Columns.{formNumber}
+use Rattle.columns.specs.declared.Form.the-variants.{Entry as EntryForm}
 use Rattle.tables.specs.Tables.{firstSuch, numberAt, classNumber, firstRow}
 use Rattle.tables.specs.declared.Class.the-variants.{Entry}
 
--- an entry's row: kind 7, id, type, ref, next
-abbrev pub entryKind : ℕ
-entryKind = 7
-
--- the entry that follows entry k, of n rows: 0 is none, and so is an ID that meets no row
+-- the entry that follows entry k, of n rows, by its next, the fourth number behind the kind: 0 is none, and so is an ID that meets no row
 unfoldable pub nextEntry : List ℤ → ℕ → ℕ → ℕ
 nextEntry rows n k = cond (sameZ (numberAt rows k 4) (pos 0)) n (firstRow rows n (pos (classNumber Entry)) (numberAt rows k 4))
 
@@ -24,7 +22,7 @@ exceedsOf rows n (suc left) k = cond (ltb (nextEntry rows n k) n) (exceedsOf row
 
 -- ---- LOOP, asked of one row, and the first of n rows that breaks it
 unfoldable pub loopsAt : List ℤ → ℕ → ℕ → Bool
-loopsAt rows n k = sameZ (numberAt rows k 0) (pos entryKind) && exceedsOf rows n 256 k
+loopsAt rows n k = sameZ (numberAt rows k 0) (pos (formNumber EntryForm)) && exceedsOf rows n 256 k
 
 unfoldable pub firstLoop : List ℤ → ℕ → ℕ
 firstLoop rows n = firstSuch (loopsAt rows n) 0 n

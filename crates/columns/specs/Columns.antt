@@ -42,6 +42,16 @@ formNumber Delay = 6
 formNumber Entry = 7
 formNumber Trigger = 9
 
+-- ---- "8 extension", "10 label", "11 shape": the kinds whose lines have a form of their own
+abbrev pub extensionKind : ℕ
+extensionKind = 8
+
+abbrev pub labelKind : ℕ
+labelKind = 10
+
+abbrev pub shapeKind : ℕ
+shapeKind = 11
+
 -- ---- "IDs and types 1 to M = 2,147,483,647; a reference may be 0, except mag, phase and gradient shape IDs and an extension's ref.
 -- Microseconds and block durations 0 to 10^9. num and num_samples 1 to 10^6." "type and channel 0 to M". The last three kinds are no integers.
 abbrev pub leastOf : Kind → ℕ

@@ -72,14 +72,14 @@ count-most Row = omega arith
 count-most Definition = omega arith
 count-most (FoundFault f) = omega arith
 
-row-one : (f : Found) → rowCount f ≡ 1 → isRow f ≡ true
+pub row-one : (f : Found) → rowCount f ≡ 1 → isRow f ≡ true
 unfolding isRow
 row-one Nothing e = absurd (omega arith)
 row-one Row e = refl
 row-one Definition e = absurd (omega arith)
 row-one (FoundFault f) e = absurd (omega arith)
 
-row-none : (f : Found) → (rowCount f ≡ 1 → ⊥) → isRow f ≡ false
+pub row-none : (f : Found) → (rowCount f ≡ 1 → ⊥) → isRow f ≡ false
 unfolding isRow
 row-none Nothing e = refl
 row-none Row e = absurd (e refl)

@@ -16,28 +16,20 @@ use Rattle.text.proofs.Cut.{LineAt, WholeAt}
 use Rattle.signed.specs.Signed.{sameZ}
 use Rattle.grammar.specs.Steps.{fresh, stepOf}
 use Rattle.grammar.specs.declared.Found.{Found}
-use Rattle.grammar.specs.declared.Found.the-variants.{Nothing, Row, Definition, Fault as FoundFault}
 use Rattle.grammar.specs.declared.State.{State}
 use Rattle.grammar.specs.declared.Stepped.{Stepped}
 use Rattle.file.specs.Whole.{isFault, isRow}
 use Rattle.file.specs.Shapes.{endsShape, valuesText, isShape, storedFrom, storedOf}
 use Rattle.file.specs.Inside.{rowCount}
+use Rattle.file.proofs.Laying.{row-one, row-none, count-most}
 use Rattle.file.proofs.Walking.{Within, within-start, within-turn}
 
 -- ---- the row of a shape
 row-zero : (f : Found) → rowCount f ≡ 0 → isRow f ≡ false
-unfolding isRow
-row-zero Nothing e = refl
-row-zero Row e = absurd (omega arith)
-row-zero Definition e = refl
-row-zero (FoundFault f) e = refl
+row-zero f e = row-none f (λ (q : rowCount f ≡ 1). omega arith)
 
 row-some : (f : Found) → (rowCount f ≡ 0 → ⊥) → isRow f ≡ true
-unfolding isRow
-row-some Nothing e = absurd (e refl)
-row-some Row e = refl
-row-some Definition e = absurd (e refl)
-row-some (FoundFault f) e = absurd (e refl)
+row-some f n = let m = count-most f in row-one f (omega arith)
 
 module _ (id : ℤ) (s : Stepped) (count : ℕ) (p : count ≡ rowCount (s .found)) where
   pub shape-none : count ≡ 0 → false ≡ isShape id s

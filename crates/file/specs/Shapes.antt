@@ -9,6 +9,7 @@ use Rattle.text.specs.Marks.{markOf}
 use Rattle.text.specs.declared.Mark.{Mark}
 use Rattle.text.specs.declared.Mark.the-variants.{Blank, Comment, Section, Plain}
 use Rattle.signed.specs.Signed.{sameZ}
+use Rattle.columns.specs.Columns.{shapeKind}
 use Rattle.grammar.specs.Steps.{fresh, stepOf}
 use Rattle.grammar.specs.declared.State.{State}
 use Rattle.grammar.specs.declared.Stepped.{Stepped}
@@ -28,7 +29,7 @@ valuesText (w ∷ ws) = cond (endsShape (markOf (bareOf w))) [] (w ++ valuesText
 
 -- ---- The first shape with this ID: what follows its `num_samples`
 unfoldable pub isShape : ℤ → Stepped → Bool
-isShape id r = isRow (r .found) && (sameZ (getD (r .cells) 0 (pos 0)) (pos 11) && sameZ (getD (r .cells) 1 (pos 0)) id)
+isShape id r = isRow (r .found) && (sameZ (getD (r .cells) 0 (pos 0)) (pos shapeKind) && sameZ (getD (r .cells) 1 (pos 0)) id)
 
 unfoldable pub storedFrom : ℤ → State → ℕ → List (List ℕ) → List ℕ
 storedFrom id st n [] = []

@@ -6,7 +6,7 @@ use lib.IntN.{ℤ, pos, natAbs}
 use Rattle.signed.specs.Signed.{largest}
 use Rattle.numeral.specs.Integer.{largestId}
 use Rattle.shape.specs.declared.Edition.{Edition}
-use Rattle.columns.specs.Columns.{columnsOf, formNumber, mostOf}
+use Rattle.columns.specs.Columns.{columnsOf, formNumber, extensionKind, labelKind, shapeKind, mostOf}
 use Rattle.columns.specs.Rows.{padded}
 use Rattle.columns.specs.Ranges.{InRange}
 use Rattle.columns.specs.declared.Form.{Form}
@@ -17,11 +17,11 @@ use Rattle.grammar.specs.declared.Place.the-variants.{Start, Version, Se
 -- ---- All eleven kinds, twelve numbers each: those read by their columns; "8 extension", "10 label" and "11 shape"
 pub data RowIn (edition : Edition) : List ℤ → Type 0 where
   by-columns : (form : Form) (vs : List ℤ) → InRange (columnsOf edition form) vs → RowIn edition (padded (formNumber form) vs)
-  extension : (type code : ℕ) → 1 ≤ type → type ≤ largestId → code ≤ 3 → RowIn edition (padded 8 (pos type ∷ pos code ∷ []))
+  extension : (type code : ℕ) → 1 ≤ type → type ≤ largestId → code ≤ 3 → RowIn edition (padded extensionKind (pos type ∷ pos code ∷ []))
   label : (id flag n : ℕ) (v : ℤ) → 1 ≤ id → id ≤ largestId → flag ≤ 1 → natAbs v ≤ largestId → 1 ≤ n → n ≤ 13
-      → RowIn edition (padded 10 (pos id ∷ pos flag ∷ v ∷ pos n ∷ []))
+      → RowIn edition (padded labelKind (pos id ∷ pos flag ∷ v ∷ pos n ∷ []))
   shape : (id num first : ℕ) → 1 ≤ id → id ≤ largestId → 1 ≤ num → num ≤ mostOf Count → first ≤ largest
-      → RowIn edition (padded 11 (pos id ∷ pos num ∷ pos first ∷ []))
+      → RowIn edition (padded shapeKind (pos id ∷ pos num ∷ pos first ∷ []))
 
 -- ---- Where the edition is known, and with it what rows may be
 unfoldable pub isPast : Place → Bool

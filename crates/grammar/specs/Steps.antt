@@ -19,7 +19,7 @@ use Rattle.shape.specs.declared.Item.{Item}
 use Rattle.shape.specs.declared.Item.the-variants.{Value as ItemValue, Skipped, Bad as ItemBad}
 use Rattle.shape.specs.declared.Edition.{Edition}
 use Rattle.shape.specs.declared.Edition.the-variants.{V13, V14}
-use Rattle.columns.specs.Columns.{columnsOf, mostOf}
+use Rattle.columns.specs.Columns.{columnsOf, extensionKind, labelKind, shapeKind, mostOf}
 use Rattle.columns.specs.Rows.{rowFrom, blank, padded, rowIs}
 use Rattle.columns.specs.declared.Form.{Form}
 use Rattle.columns.specs.declared.Form.the-variants.{Entry, Trigger}
@@ -158,7 +158,7 @@ rowStep st n form fields = givenRow st n (rowIs form (rowFrom (columnsOf (st .ed
 -- ---- "EXTENSIONS id, type, ref, next, until a line `extension NAME type`, whose rows follow." "8 extension (type; 0 unknown, 1 TRIGGERS, 2
 -- LABELSET, 3 LABELINC)", "10 label (id, 0 set or 1 increment, value, label 1 to 13 as listed)"
 unfoldable pub labelRow : State → ℕ → Bool → HeadLine → Stepped
-labelRow st n increment (Label id value label) = gaveOf st n (padded 10 (pos id ∷ pos (cond increment 1 0) ∷ value ∷ pos label ∷ []))
+labelRow st n increment (Label id value label) = gaveOf st n (padded labelKind (pos id ∷ pos (cond increment 1 0) ∷ value ∷ pos label ∷ []))
 labelRow st n increment (Extension type code) = refusedOf st FieldFault
 labelRow st n increment HeadBad = refusedOf st FieldFault
 
@@ -170,7 +170,7 @@ unfoldable pub listedOf : ℕ → Listed
 listedOf code = cond (eqb code 1) Triggers (cond (eqb code 2) (Labels false) (cond (eqb code 3) (Labels true) Unknown))
 
 unfoldable pub extensionRow : State → ℕ → HeadLine → Stepped
-extensionRow st n (Extension type code) = gaveOf (movedOf st (Extensions (listedOf code))) n (padded 8 (pos type ∷ pos code ∷ []))
+extensionRow st n (Extension type code) = gaveOf (movedOf st (Extensions (listedOf code))) n (padded extensionKind (pos type ∷ pos code ∷ []))
 extensionRow st n (Label id value label) = refusedOf st FieldFault
 extensionRow st n HeadBad = refusedOf st FieldFault
 
@@ -209,7 +209,7 @@ unfoldable pub countedOf : State → ℕ → State
 countedOf st num = record { place = Values; edition = st .edition; seen = st .seen; samples = min (st .samples + num) largest }
 
 unfoldable pub countRow : State → ℤ → ℕ → Natural → Stepped
-countRow st id n (NaturalValue num) = gaveOf (countedOf st num) n (padded 11 (id ∷ pos num ∷ pos (min (st .samples) largest) ∷ []))
+countRow st id n (NaturalValue num) = gaveOf (countedOf st num) n (padded shapeKind (id ∷ pos num ∷ pos (min (st .samples) largest) ∷ []))
 countRow st id n NaturalBad = refusedOf st FieldFault
 
 unfoldable pub countStep : State → ℤ → ℕ → List (List ℕ) → Stepped

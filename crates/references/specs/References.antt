@@ -8,7 +8,9 @@ use lib.ListN.{getD}
 use Rattle.signed.specs.Signed.{sameZ}
 use Rattle.shape.specs.declared.Edition.{Edition}
 use Rattle.shape.specs.declared.Edition.the-variants.{V13, V14}
+use Rattle.columns.specs.Columns.{formNumber}
 use Rattle.columns.specs.Rows.{rowWidth}
+use Rattle.columns.specs.declared.Form.the-variants.{Block as BlockForm, Rf as RfForm, Gradient as GradientForm, Entry as EntryForm}
 use Rattle.tables.specs.Tables.{firstSuch, numberAt, classNumber, firstRow}
 use Rattle.tables.specs.declared.Class.the-variants.{Rf, Gradient, Adc, Delay, Entry, Extension, Trigger, Set, Shape, Increment}
 
@@ -30,7 +32,8 @@ rfRefs = 0 ∷ 0 ∷ 0 ∷ 0 ∷ classNumber Shape ∷ classNumber Shape ∷ cla
 abbrev pub gradientRefs : List ℕ
 gradientRefs = 0 ∷ 0 ∷ 0 ∷ 0 ∷ classNumber Shape ∷ classNumber Shape ∷ []
 
--- "EXTENSIONS id, type, ref, next": what its type's extension is says which rows ref is one of; "refs to it unchecked" of an unknown one
+-- "EXTENSIONS id, type, ref, next": what its type's extension is says which rows ref is one of; "refs to it unchecked" of an unknown one; where the
+-- type meets no row, the type itself misses
 unfoldable pub codeRef : ℤ → ℕ
 codeRef code = cond (sameZ code (pos 1)) (classNumber Trigger) (cond (sameZ code (pos 2)) (classNumber Set) (cond (sameZ code (pos 3)) (classNumber Increment) 0))
 
@@ -42,10 +45,10 @@ entryRefs rows n type = pos 0 ∷ pos 0 ∷ pos (classNumber Extension) ∷ exte
 
 unfoldable pub refOf : Edition → List ℤ → ℕ → ℕ → ℕ → ℤ → ℤ
 refOf e rows n k c kind =
-    cond (sameZ kind (pos 1)) (pos (getD (blockRefs e) c 0))
-    (cond (sameZ kind (pos 2)) (pos (getD rfRefs c 0))
-    (cond (sameZ kind (pos 3)) (pos (getD gradientRefs c 0))
-    (cond (sameZ kind (pos 7)) (getD (entryRefs rows n (numberAt rows k 2)) c (pos 0)) (pos 0))))
+    cond (sameZ kind (pos (formNumber BlockForm))) (pos (getD (blockRefs e) c 0))
+    (cond (sameZ kind (pos (formNumber RfForm))) (pos (getD rfRefs c 0))
+    (cond (sameZ kind (pos (formNumber GradientForm))) (pos (getD gradientRefs c 0))
+    (cond (sameZ kind (pos (formNumber EntryForm))) (getD (entryRefs rows n (numberAt rows k 2)) c (pos 0)) (pos 0))))
 
 unfoldable pub refAt : Edition → List ℤ → ℕ → ℕ → ℕ → ℤ
 refAt e rows n k c = refOf e rows n k c (numberAt rows k 0)

@@ -7,7 +7,9 @@ use lib.Dec.{ltb}
 use lib.IntN.{ℤ, pos}
 use lib.ListN.{length, getD}
 use Rattle.signed.specs.Signed.{sameZ}
+use Rattle.columns.specs.Columns.{formNumber, extensionKind, labelKind, shapeKind}
 use Rattle.columns.specs.Rows.{rowWidth}
+use Rattle.columns.specs.declared.Form.the-variants.{Block as BlockForm, Rf as RfForm, Gradient as GradientForm, Trap as TrapForm, Adc as AdcForm, Delay as DelayForm, Entry as EntryForm, Trigger as TriggerForm}
 use Rattle.tables.specs.declared.Class.{Class}
 use Rattle.tables.specs.declared.Class.the-variants.{Block, Rf, Gradient, Adc, Delay, Entry, Extension, Trigger, Set, Shape, Increment}
 
@@ -23,20 +25,22 @@ numberAt rows k c = cond (ltb k (length rows / rowWidth) && ltb c rowWidth) (get
 -- ---- "IDs are unique per class; GRADIENTS and TRAP are one, each extension's rows one, blocks one."
 -- a class has the number of its rows' kind; rows 3 and 4 are one class, and rows 10 are two, by set or increment
 abbrev pub classNumber : Class → ℕ
-classNumber Block = 1
-classNumber Rf = 2
-classNumber Gradient = 3
-classNumber Adc = 5
-classNumber Delay = 6
-classNumber Entry = 7
-classNumber Extension = 8
-classNumber Trigger = 9
-classNumber Set = 10
-classNumber Shape = 11
+classNumber Block = formNumber BlockForm
+classNumber Rf = formNumber RfForm
+classNumber Gradient = formNumber GradientForm
+classNumber Adc = formNumber AdcForm
+classNumber Delay = formNumber DelayForm
+classNumber Entry = formNumber EntryForm
+classNumber Extension = extensionKind
+classNumber Trigger = formNumber TriggerForm
+classNumber Set = labelKind
+classNumber Shape = shapeKind
 classNumber Increment = 12
 
 unfoldable pub classOf : ℤ → ℤ → ℤ
-classOf kind second = cond (sameZ kind (pos 4)) (pos 3) (cond (sameZ kind (pos 10) && sameZ second (pos 1)) (pos 12) kind)
+classOf kind second =
+    cond (sameZ kind (pos (formNumber TrapForm))) (pos (classNumber Gradient))
+    (cond (sameZ kind (pos labelKind) && sameZ second (pos 1)) (pos (classNumber Increment)) kind)
 
 unfoldable pub classAt : List ℤ → ℕ → ℤ
 classAt rows k = classOf (numberAt rows k 0) (numberAt rows k 2)
