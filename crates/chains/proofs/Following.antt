@@ -7,17 +7,12 @@ use native.Mathlib.Omega.{arith}
 use borrow.Author.Tests.{lt-ltb, le-ltb}
 use lib.IntN.{ℤ, pos}
 use Rattle.signed.specs.Signed.{sameZ}
-use Rattle.tables.specs.Tables.{numberAt, firstRow}
+use Rattle.tables.specs.Tables.{numberAt, metRow}
 use Rattle.chains.specs.Chains.{nextEntry, exceedsOf, loopsAt}
 
-module _ (rows : List ℤ) (n k : ℕ) (next : ℤ) (p : next ≡ numberAt rows k 4) where
-  pub entry-last : sameZ next (pos 0) ≡ true → n ≡ nextEntry rows n k
-  unfolding nextEntry
-  entry-last e = rw (← p, e)
-
-  pub entry-next : sameZ next (pos 0) ≡ false → firstRow rows n (pos 7) next ≡ nextEntry rows n k
-  unfolding nextEntry
-  entry-next e = rw (← p, e)
+pub entry-next : (rows : List ℤ) (n k : ℕ) (next ref : ℤ) → ref ≡ next → next ≡ numberAt rows k 4 → metRow rows n (pos 7) ref ≡ nextEntry rows n k
+unfolding nextEntry
+entry-next rows n k next ref p q = rw (p, q)
 
 module _ (rows : List ℤ) (n left k : ℕ) where
   pub exceeds-all : left ≡ 0 → true ≡ exceedsOf rows n left k

@@ -8,21 +8,18 @@ use lib.IntN.{ℤ, pos}
 use Rattle.signed.specs.Signed.{sameZ}
 use Rattle.columns.specs.Columns.{formNumber}
 use Rattle.columns.specs.declared.Form.the-variants.{Entry as EntryForm}
-use Rattle.tables.specs.Tables.{firstSuch, numberAt, classNumber, firstRow}
+use Rattle.tables.specs.Tables.{numberAt, classNumber, metRow}
 use Rattle.tables.specs.declared.Class.the-variants.{Entry}
 
 -- the entry that follows entry k, of n rows, by its next, the fourth number behind the kind: 0 is none, and so is an ID that meets no row
 unfoldable pub nextEntry : List ℤ → ℕ → ℕ → ℕ
-nextEntry rows n k = cond (sameZ (numberAt rows k 4) (pos 0)) n (firstRow rows n (pos (classNumber Entry)) (numberAt rows k 4))
+nextEntry rows n k = metRow rows n (pos (classNumber Entry)) (numberAt rows k 4)
 
 -- whether the chain from entry k has more entries than are left to count
 unfoldable pub exceedsOf : List ℤ → ℕ → ℕ → ℕ → Bool
 exceedsOf rows n zero k = true
 exceedsOf rows n (suc left) k = cond (ltb (nextEntry rows n k) n) (exceedsOf rows n left (nextEntry rows n k)) false
 
--- ---- LOOP, asked of one row, and the first of n rows that breaks it
+-- ---- LOOP, asked of one row
 unfoldable pub loopsAt : List ℤ → ℕ → ℕ → Bool
 loopsAt rows n k = sameZ (numberAt rows k 0) (pos (formNumber EntryForm)) && exceedsOf rows n 256 k
-
-unfoldable pub firstLoop : List ℤ → ℕ → ℕ
-firstLoop rows n = firstSuch (loopsAt rows n) 0 n

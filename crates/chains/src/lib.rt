@@ -1,16 +1,12 @@
 // Extension chains, followed entry by entry with a count of entries left.
 ghost use mathlib.Core.Path.{_≡_};
-ghost use Rattle.chains.specs.Chains.{nextEntry, exceedsOf, loopsAt, firstLoop};
+ghost use Rattle.chains.specs.Chains.{nextEntry, exceedsOf, loopsAt};
 
 // The row of the entry that follows entry k; n, the number of rows, if none does.
 pub fn next_entry(rows: &[i64], n: usize, k: usize) -> usize
     ensures { λ r. ⌜ r ≡ nextEntry (now (rows .entry)) n k ⌝ }
 {
-    let next = tables::number(rows, k, 4);
-    if signed::same(next, 0) {
-        return n;
-    }
-    tables::find(rows, n, 7, next)
+    tables::met_row(rows, n, 7, tables::number(rows, k, 4))
 }
 
 // Has the chain from entry k more entries than are left to count?
@@ -35,18 +31,4 @@ pub fn loops(rows: &[i64], n: usize, k: usize) -> bool
         return exceeds(rows, n, k, 256);
     }
     false
-}
-
-// The first of n rows that is an entry whose chain is over 256 entries; n if none is.
-pub fn first_loop(rows: &[i64], n: usize) -> usize
-    ensures { λ r. ⌜ r ≡ firstLoop (now (rows .entry)) n ⌝ }
-{
-    let mut k: usize = 0;
-    while k < n {
-        if loops(rows, n, k) {
-            return k;
-        }
-        k += 1;
-    }
-    n
 }

@@ -11,7 +11,7 @@ use lib.ListN.{getD}
 use Rattle.signed.specs.Signed.{sameZ}
 use Rattle.text.proofs.Cases.{lt-or-ge}
 use Rattle.shape.specs.declared.Edition.{Edition}
-use Rattle.tables.specs.Tables.{firstSuch, numberAt, firstRow}
+use Rattle.tables.specs.Tables.{firstSuch, numberAt, firstRow, metNumber}
 use Rattle.references.specs.References.{blockRefs, rfRefs, gradientRefs, codeRef, extensionRef, entryRefs, refOf, refAt, missesOf, missesAt, danglesAt}
 
 -- ---- numbers that refer to nothing
@@ -58,7 +58,7 @@ entry-rest rows n type (suc (suc (suc (suc zero)))) p q r = absurd (r refl)
 entry-rest rows n type (suc (suc (suc (suc (suc c))))) p q r = refl
 
 -- ---- the rows that an extension's entries refer to
-module _ (rows : List ℤ) (n : ℕ) (type : ℤ) (k : ℕ) (p : k ≡ firstRow rows n (pos 8) type) (code : ℤ) (q : code ≡ numberAt rows k 2) where
+module _ (rows : List ℤ) (n : ℕ) (type ref : ℤ) (p : ref ≡ type) (code : ℤ) (q : code ≡ metNumber rows n (pos 8) ref 2) where
   by-code : pos (codeRef code) ≡ extensionRef rows n type
   unfolding extensionRef
   by-code = rw (q, p)

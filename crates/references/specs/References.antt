@@ -11,7 +11,7 @@ use Rattle.shape.specs.declared.Edition.the-variants.{V13, V14}
 use Rattle.columns.specs.Columns.{formNumber}
 use Rattle.columns.specs.Rows.{rowWidth}
 use Rattle.columns.specs.declared.Form.the-variants.{Block as BlockForm, Rf as RfForm, Gradient as GradientForm, Entry as EntryForm}
-use Rattle.tables.specs.Tables.{firstSuch, numberAt, classNumber, firstRow}
+use Rattle.tables.specs.Tables.{firstSuch, numberAt, classNumber, firstRow, metNumber}
 use Rattle.tables.specs.declared.Class.the-variants.{Rf, Gradient, Adc, Delay, Entry, Extension, Trigger, Set, Shape, Increment}
 
 -- ---- The class that each number of a row refers to, kind first; 0 is none
@@ -38,7 +38,7 @@ unfoldable pub codeRef : ℤ → ℕ
 codeRef code = cond (sameZ code (pos 1)) (classNumber Trigger) (cond (sameZ code (pos 2)) (classNumber Set) (cond (sameZ code (pos 3)) (classNumber Increment) 0))
 
 unfoldable pub extensionRef : List ℤ → ℕ → ℤ → ℤ
-extensionRef rows n type = pos (codeRef (numberAt rows (firstRow rows n (pos (classNumber Extension)) type) 2))
+extensionRef rows n type = pos (codeRef (metNumber rows n (pos (classNumber Extension)) type 2))
 
 abbrev pub entryRefs : List ℤ → ℕ → ℤ → List ℤ
 entryRefs rows n type = pos 0 ∷ pos 0 ∷ pos (classNumber Extension) ∷ extensionRef rows n type ∷ pos (classNumber Entry) ∷ []
@@ -60,9 +60,6 @@ missesOf rows n class id = not (sameZ class (pos 0)) && (not (sameZ id (pos 0)) 
 unfoldable pub missesAt : Edition → List ℤ → ℕ → ℕ → ℕ → Bool
 missesAt e rows n k c = missesOf rows n (refAt e rows n k c) (numberAt rows k c)
 
--- ---- REFERENCE, asked of one row, and the first of n rows that breaks it
+-- ---- REFERENCE, asked of one row
 unfoldable pub danglesAt : Edition → List ℤ → ℕ → ℕ → Bool
 danglesAt e rows n k = ltb (firstSuch (missesAt e rows n k) 0 rowWidth) rowWidth
-
-unfoldable pub firstDangling : Edition → List ℤ → ℕ → ℕ
-firstDangling e rows n = firstSuch (danglesAt e rows n) 0 n

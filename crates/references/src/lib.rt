@@ -2,7 +2,7 @@
 ghost use mathlib.Core.Path.{_≡_};
 ghost use lib.IntN.{pos};
 ghost use lib.ListN.{getD};
-ghost use Rattle.references.specs.References.{durationRef, blockRefs, rfRefs, gradientRefs, extensionRef, entryRefs, refAt, missesOf, danglesAt, firstDangling};
+ghost use Rattle.references.specs.References.{durationRef, blockRefs, rfRefs, gradientRefs, extensionRef, entryRefs, refAt, missesOf, danglesAt};
 use shape::Edition;
 
 // The class of a block's second column: a delay in 1.3, a duration and no reference in 1.4.
@@ -55,11 +55,10 @@ fn gradient_ref(c: usize) -> i64
 }
 
 // The class of the rows that an entry of an extension type refers to, by the code of the extension; 0 where that is unknown.
-fn extension_ref(rows: &[i64], n: usize, number: i64) -> i64
+pub fn extension_ref(rows: &[i64], n: usize, number: i64) -> i64
     ensures { λ r. ⌜ r ≡ extensionRef (now (rows .entry)) n number ⌝ }
 {
-    let k = tables::find(rows, n, 8, number);
-    let code = tables::number(rows, k, 2);
+    let code = tables::met_number(rows, n, 8, number, 2);
     if signed::same(code, 1) {
         return 9;
     }
@@ -85,7 +84,7 @@ fn entry_ref(rows: &[i64], n: usize, number: i64, c: usize) -> i64
 }
 
 // The class that number c of row k refers to; 0 is none.
-fn ref_at(edition: Edition, rows: &[i64], n: usize, k: usize, c: usize) -> i64
+pub fn ref_at(edition: Edition, rows: &[i64], n: usize, k: usize, c: usize) -> i64
     ensures { λ r. ⌜ r ≡ refAt edition (now (rows .entry)) n k c ⌝ }
 {
     let kind = tables::number(rows, k, 0);
@@ -130,18 +129,4 @@ pub fn dangles(edition: Edition, rows: &[i64], n: usize, k: usize) -> bool
         c += 1;
     }
     false
-}
-
-// The first of n rows that refers to a row that is not among them; n if none does.
-pub fn first_dangling(edition: Edition, rows: &[i64], n: usize) -> usize
-    ensures { λ r. ⌜ r ≡ firstDangling edition (now (rows .entry)) n ⌝ }
-{
-    let mut k: usize = 0;
-    while k < n {
-        if dangles(edition, rows, n, k) {
-            return k;
-        }
-        k += 1;
-    }
-    n
 }

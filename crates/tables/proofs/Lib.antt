@@ -1,3 +1,4 @@
--- The laws of the table of rows.
+-- The laws of the tables.
 pub mod Numbers
 pub mod Found
+pub mod Meeting

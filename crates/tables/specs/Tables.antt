@@ -1,11 +1,11 @@
--- The table of rows: its numbers, classes, and the row of a class with an ID.
-use Prim.Native.Nat.{ℕ, zero, suc, _+_, _*_, _/_, _<_}
+-- The tables: numbers and classes of rows, the row that a reference meets, and the samples of a shape.
+use Prim.Native.Nat.{ℕ, zero, suc, _+_, _*_, _/_, _^_, _<_}
 use mathlib.Core.Bool.{Bool, true, cond, _&&_}
 use mathlib.Core.List.{List}
 use mathlib.Core.Path.{_≡_}
 use lib.Dec.{ltb}
-use lib.IntN.{ℤ, pos}
-use lib.ListN.{length, getD}
+use lib.IntN.{ℤ, pos, natAbs}
+use lib.ListN.{length, getD, take, drop}
 use Rattle.signed.specs.Signed.{sameZ}
 use Rattle.columns.specs.Columns.{formNumber, extensionKind, labelKind, shapeKind}
 use Rattle.columns.specs.Rows.{rowWidth}
@@ -68,3 +68,19 @@ pub record OnlyRow (rows : List ℤ) (n : ℕ) (class id : ℤ) (r : ℕ) : Type
   pub there : r < n
   pub is : isRowOf rows class id r ≡ true
   pub only : (k : ℕ) → k < n → isRowOf rows class id k ≡ true → k ≡ r
+
+-- ---- The row that a reference meets among n rows: a reference of 0 meets none, which is n
+unfoldable pub metRow : List ℤ → ℕ → ℤ → ℤ → ℕ
+metRow rows n class id = cond (sameZ id (pos 0)) n (firstRow rows n class id)
+
+-- number c of that row; 0 where there is none
+unfoldable pub metNumber : List ℤ → ℕ → ℤ → ℤ → ℕ → ℤ
+metNumber rows n class id c = cond (ltb (metRow rows n class id) n) (numberAt rows (metRow rows n class id) c) (pos 0)
+
+-- ---- "11 shape (id, num_samples, first sample's place from 0)": the samples of the shape that a reference meets
+unfoldable pub samplesOf : List ℤ → ℕ → List ℤ → ℤ → List ℤ
+samplesOf rows n samples id = take (natAbs (metNumber rows n (pos (classNumber Shape)) id 2)) (drop (natAbs (metNumber rows n (pos (classNumber Shape)) id 3)) samples)
+
+-- 1 in steps of 10^-12, in which samples are counted
+abbrev pub one : ℕ
+one = 10 ^ 12

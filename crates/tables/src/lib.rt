@@ -1,7 +1,8 @@
-// The table of rows: its numbers, the class that a row's ID belongs to, and the row of a class with an ID.
+// The tables: a row's numbers, the class that its ID belongs to, the row that a reference meets, and the samples of a shape.
 ghost use mathlib.Core.Path.{_≡_};
 ghost use lib.IntN.{pos};
-ghost use Rattle.tables.specs.Tables.{numberAt, classNumber, classAt, isRowOf, firstRow, isAgain, firstAgain};
+ghost use lib.ListN.{take, drop};
+ghost use Rattle.tables.specs.Tables.{numberAt, classNumber, classAt, isRowOf, firstRow, isAgain, firstAgain, metRow, metNumber, samplesOf};
 
 // What an ID is unique in.
 pub enum Class {
@@ -112,4 +113,48 @@ pub fn first_again(rows: &[i64], n: usize) -> usize
         k += 1;
     }
     n
+}
+
+// The row that a reference meets among n rows; n if it is 0 or meets none.
+pub fn met_row(rows: &[i64], n: usize, class: i64, id: i64) -> usize
+    ensures { λ r. ⌜ r ≡ metRow (now (rows .entry)) n class id ⌝ }
+{
+    if signed::same(id, 0) {
+        return n;
+    }
+    find(rows, n, class, id)
+}
+
+// Number c of the row that a reference meets; 0 if it meets none.
+pub fn met_number(rows: &[i64], n: usize, class: i64, id: i64, c: usize) -> i64
+    ensures { λ r. ⌜ r ≡ metNumber (now (rows .entry)) n class id c ⌝ }
+{
+    let k = met_row(rows, n, class, id);
+    if k < n {
+        return number(rows, k, c);
+    }
+    0
+}
+
+// So many samples from a place on, as far as there are any.
+fn part(samples: &[i64], from: usize, count: usize) -> &[i64]
+    ensures { λ r. ⌜ now r ≡ take count (drop from (now (samples .entry))) ⌝ }
+{
+    if samples.len() <= from {
+        return &samples[..0];
+    }
+    if samples.len() - from <= count {
+        return &samples[from..];
+    }
+    let end = from + count;
+    &samples[from..end]
+}
+
+// The samples of the shape with this ID: those that its row counts from its place on.
+pub fn samples_of<'a>(rows: &[i64], n: usize, samples: &'a [i64], id: i64) -> &'a [i64]
+    ensures { λ r. ⌜ now r ≡ samplesOf (now (rows .entry)) n (now (samples .entry)) id ⌝ }
+{
+    let count = signed::size(met_number(rows, n, 11, id, 2)) as usize;
+    let from = signed::size(met_number(rows, n, 11, id, 3)) as usize;
+    part(samples, from, count)
 }

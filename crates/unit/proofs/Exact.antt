@@ -1,6 +1,6 @@
 -- Where times are exact. Sums and products of times within the paper's ranges are not capped, and a time that is given as whole
 -- microseconds or as whole steps of a raster is that many, and every such time is given so. Assumes nothing.
-use Prim.Native.Nat.{ℕ, _+_, _*_, _/_, _%_, _^_, _≤_, _<_}
+use Prim.Native.Nat.{ℕ, _+_, _*_, _/_, _%_, _^_, _≤_, _<_, max}
 use mathlib.Core.Path.{_≡_, refl, sym, ap, _∙_}
 use mathlib.Core.Bool.{Bool, true, false}
 use native.Mathlib.Omega.{arith}
@@ -36,8 +36,11 @@ pub dwell-exact : (c d : ℕ) → c ≤ 10 ^ 6 → d ≤ 10 ^ 9 → capped (c * 
 dwell-exact c d h k = product-exact c d (10 ^ 6) (10 ^ 9) h k (omega arith)
 
 -- sums compose
-pub capped-add : (a b : ℕ) → capped (capped a + b) ≡ capped (a + b)
-capped-add a b = omega arith
+pub capped-plus : (a b : ℕ) → capped (capped a + capped b) ≡ capped (a + b)
+capped-plus a b = omega arith
+
+pub capped-longer : (a b : ℕ) → max (capped a) (capped b) ≡ capped (max a b)
+capped-longer a b = omega arith
 
 pub sum-exact : (a b c d : ℕ) → a ≤ 10 ^ 15 → b ≤ 10 ^ 15 → c ≤ 10 ^ 15 → d ≤ 10 ^ 15 → capped (capped (capped (a + b) + c) + d) ≡ a + b + c + d
 sum-exact a b c d h k l m = omega arith

@@ -14,6 +14,14 @@ pub struct Micros(pub u64);
 // A time as a number of steps of a raster.
 pub struct RasterCount(pub u64);
 
+// The rasters of a file, in the paper's order; 0 ns is none.
+pub struct Rasters {
+    pub gradient: Nanos,
+    pub rf: Nanos,
+    pub adc: Nanos,
+    pub block: Nanos,
+}
+
 // A time as whole microseconds, or one between two of them.
 pub enum InMicros {
     Whole(Micros),

@@ -1,31 +1,26 @@
 -- `chains::next_entry` meets its contract. Assumes nothing.
-use mathlib.Core.Path.{_∙_, refl}
+use mathlib.Core.Path.{_∙_}
 use Rattle.signed.proofs.Machine.{rd-at}
-use Rattle.tables.proofs.Numbers.{compared}
-use Rattle.chains.proofs.Following.{entry-last, entry-next}
+use Rattle.chains.proofs.Following.{entry-next}
 use borrow.Author.Needs.{needs}
 use Rattle.chains.proofs.next_entry.Statement.{statement}
 use Rattle.chains.proofs.next_entry.Tie as tie
+use Rattle.chains.proofs.next_entry.Reads as reads
+use Rattle.chains.proofs.next_entry.Lts as lts
+use Rattle.tables.proofs.met_row.Reads as met-row-reads
+use Rattle.tables.proofs.number.Reads as number-reads
 
+-- src/lib.rt:9:33
 number-requires : tie.Need-number-requires
 number-requires c κs = search needs
 
-same-requires : tie.Need-same-requires
-same-requires c κs = search needs
+-- src/lib.rt:9:5
+met-row-requires : tie.Need-met-row-requires
+met-row-requires c κs = search needs
 
+-- src/lib.rt:6:1
 returns : tie.Need-returns
-returns c = let s = c .before in
-    let m = s .before in
-    entry-last _ _ _ _ (m .number .ensures) (compared _ _ _ _ (s .same .ensures) (rd-at _ (m .number .ok)) refl ∙ c .if1 .taken)
-
-find-requires : tie.Need-find-requires
-find-requires c κs = search needs
-
-returns-2 : tie.Need-returns-2
-returns-2 c = let s = c .before .before in
-    let m = s .before in
-    c .find .ensures ∙ rw (rd-at _ (m .number .ok)) (entry-next _ _ _ _ (m .number .ensures) (compared _ _ _ _ (s .same .ensures) (rd-at _ (m .number .ok)) refl ∙ c .before .if1 .left))
+returns c = let m = c .before .number in c .met-row .ensures ∙ entry-next _ _ _ _ _ (rd-at _ (m .ok)) (m .ensures)
 
 pub next-entry-spec : {M : Type 1} → statement M
-next-entry-spec =
-    tie.close (tie.spec number-requires same-requires returns find-requires returns-2)
+next-entry-spec = tie.close (tie.spec number-requires met-row-requires returns)

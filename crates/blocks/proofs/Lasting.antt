@@ -1,0 +1,141 @@
+-- Lengths of chains and blocks, by the answers of the code's tests. Assumes nothing.
+use Prim.Native.Nat.{ℕ, suc, _+_, _-_, _*_, _≤_, _<_, max}
+use mathlib.Core.Bool.{Bool, true, false}
+use mathlib.Core.List.{List}
+use mathlib.Core.Logic.{⊎-elim}
+use mathlib.Core.Path.{_≡_, refl, sym, ap, _∙_}
+use native.Mathlib.Numerals.{add-one}
+use native.Mathlib.Omega.{arith}
+use borrow.Author.Tests.{lt-ltb, le-ltb}
+use lib.Dec.{ltb}
+use lib.IntN.{ℤ, pos, natAbs}
+use Rattle.signed.specs.Signed.{sameZ}
+use Rattle.text.proofs.Cases.{lt-or-ge}
+use Rattle.unit.specs.Time.{longest, capped}
+use Rattle.unit.specs.declared.Rasters.{Rasters}
+use Rattle.unit.proofs.Exact.{capped-longer}
+use Rattle.shape.specs.declared.Edition.{Edition}
+use Rattle.shape.specs.declared.Edition.the-variants.{V13, V14}
+use Rattle.tables.specs.Tables.{numberAt, metRow}
+use Rattle.chains.specs.Chains.{nextEntry}
+use Rattle.references.specs.References.{extensionRef, refAt}
+use Rattle.lengths.specs.Lengths.{countAt, lengthAt}
+use Rattle.blocks.specs.Blocks.{metLength, entryLength, chainLength, referenceLength, longestOf, numberLength, longestEvent, blockLength, isLong, outlastsAt}
+
+max-shift : (a b c : ℕ) → max (max a b) c ≡ max a (max b c)
+max-shift a b c = omega arith
+
+module _ (q : Rasters) (rows : List ℤ) (n : ℕ) (samples : List ℤ) where
+  -- ---- what a reference meets, for a class and an ID as they were handed on
+  module _ {class id held ref : ℤ} (p : held ≡ class) (r : ref ≡ id) where
+    module _ (k : ℕ) (m : k ≡ metRow rows n held ref) where
+      pub met-event : k < n → capped (lengthAt q rows n samples k) ≡ capped (metLength q rows n samples class id)
+      unfolding metLength
+      met-event h = rw (← p, ← r, ← m, lt-ltb k n h)
+
+      pub met-nothing : n ≤ k → 0 ≡ capped (metLength q rows n samples class id)
+      unfolding metLength
+      met-nothing h = rw (← p, ← r, ← m, le-ltb k n h)
+
+      pub reference-chain : sameZ held (pos 7) ≡ true → capped (chainLength q rows n samples 256 k) ≡ capped (referenceLength q rows n samples class id)
+      unfolding referenceLength
+      reference-chain e = rw (← p, ← r, e, ← m)
+
+    pub reference-event : sameZ held (pos 7) ≡ false → capped (metLength q rows n samples held ref) ≡ capped (referenceLength q rows n samples class id)
+    unfolding referenceLength
+    reference-event e = rw (← p, ← r, e)
+
+  pub entry-is : (k : ℕ) (type class number id ref : ℤ) → type ≡ numberAt rows k 2 → class ≡ extensionRef rows n type → number ≡ class → id ≡ numberAt rows k 3 → ref ≡ id
+      → capped (metLength q rows n samples number ref) ≡ capped (entryLength q rows n samples k)
+  unfolding entryLength
+  entry-is k type class number id ref t c m i r = rw (m, c, t, r, i)
+
+  -- ---- chains
+  module _ (left k : ℕ) where
+    pub chain-out : left ≡ 0 → 0 ≡ capped (chainLength q rows n samples left k)
+    unfolding chainLength
+    chain-out e = rw e
+
+    module _ (h : left ≡ 0 → ⊥) where
+      more : left ≡ suc (left - 1)
+      more = omega arith
+
+      past : (m : ℕ) → n ≤ k → chainLength q rows n samples (suc m) k ≡ 0
+      unfolding chainLength
+      past m l = rw (le-ltb k n l)
+
+      on : (m : ℕ) → k < n → chainLength q rows n samples (suc m) k ≡ max (entryLength q rows n samples k) (chainLength q rows n samples m (nextEntry rows n k))
+      unfolding chainLength
+      on m l = rw (lt-ltb k n l)
+
+      pub chain-past : n ≤ k → 0 ≡ capped (chainLength q rows n samples left k)
+      chain-past l = rw (more, past (left - 1) l)
+
+      pub chain-on : k < n → (own rest next r : ℕ) → own ≡ capped (entryLength q rows n samples k) → next ≡ nextEntry rows n k
+          → rest ≡ capped (chainLength q rows n samples (left - 1) next) → r ≡ max own rest → r ≡ capped (chainLength q rows n samples left k)
+      chain-on l own rest next r o x s m =
+          m ∙ rw (o, s, x) (capped-longer (entryLength q rows n samples k) (chainLength q rows n samples (left - 1) (nextEntry rows n k)))
+          ∙ ap capped (sym (ap (λ (j : ℕ). chainLength q rows n samples j k) more ∙ on (left - 1) l))
+
+  -- ---- the numbers of a block, one after another
+  module _ (e : Edition) (k : ℕ) where
+    pub record Longest (most c : ℕ) : Type 0 where
+      pub inside : c ≤ 9
+      pub same : max most (capped (longestOf (numberLength e q rows n samples k) c (9 - c))) ≡ capped (longestEvent e q rows n samples k)
+
+    pub longest-start : Longest 0 2
+    unfolding longestEvent
+    longest-start = record { inside = omega arith; same = omega arith }
+
+    pub longest-turn : (most c next own : ℕ) (class held id ref : ℤ) → Longest most c → c < 9 → class ≡ refAt e rows n k c → held ≡ class → id ≡ numberAt rows k c → ref ≡ id
+        → own ≡ capped (referenceLength q rows n samples held ref) → next ≡ max most own → Longest next (c + 1)
+    unfolding numberLength longestOf
+    longest-turn most c next own class held id ref w h p r i s o m =
+        let left : 9 - c ≡ suc (9 - (c + 1)) = omega arith in
+        let rest = longestOf (numberLength e q rows n samples k) (c + 1) (9 - (c + 1)) in
+        let here : own ≡ capped (numberLength e q rows n samples k c) = o ∙ rw (r, p, s, i) in
+        let all : max most (capped (max (numberLength e q rows n samples k c) rest)) ≡ capped (longestEvent e q rows n samples k) = rw (left, ← add-one c) at (w .same) in
+        record {
+          inside = omega arith;
+          same = rw (m, here) (max-shift most (capped (numberLength e q rows n samples k c)) (capped rest)) ∙ ap (max most) (capped-longer (numberLength e q rows n samples k c) rest) ∙ all;
+        }
+
+    pub longest-end : (most c : ℕ) → Longest most c → 9 ≤ c → most ≡ capped (longestEvent e q rows n samples k)
+    unfolding longestOf
+    longest-end most c w h = let none : 9 - c ≡ 0 = omega arith in let all = rw none at (w .same) in omega arith
+
+  -- ---- blocks
+  module _ (k : ℕ) where
+    module _ (e : Edition) where
+      pub block-13 : e ≡ V13 → capped (longestEvent V13 q rows n samples k) ≡ capped (blockLength e q rows n samples k)
+      unfolding blockLength
+      block-13 v = rw v
+
+      pub block-14 : e ≡ V14 → (r size : ℕ) (number : ℤ) → number ≡ numberAt rows k 2 → size ≡ natAbs number → r ≡ capped (size * q .block .0)
+          → r ≡ capped (blockLength e q rows n samples k)
+      unfolding blockLength
+      block-14 v r size number p s m = m ∙ rw (v, s, p)
+
+    module _ (kind : ℤ) (p : kind ≡ numberAt rows k 0) where
+      module _ (e : Edition) where
+        pub long-block : sameZ kind (pos 1) ≡ true → (r : Bool) (ns : ℕ) → ns ≡ capped (blockLength e q rows n samples k) → r ≡ ltb 1000000000000 ns
+            → r ≡ isLong e q rows n samples k
+        unfolding isLong
+        long-block f r ns b t = t ∙ rw (← p, f, b) (far (blockLength e q rows n samples k))
+          where
+            far : (ns : ℕ) → ltb 1000000000000 (capped ns) ≡ ltb 1000000000000 ns
+            far ns = ⊎-elim (λ (h : 1000000000000 < ns). lt-ltb 1000000000000 (capped ns) (omega arith) ∙ sym (lt-ltb 1000000000000 ns h))
+                (λ (h : ns ≤ 1000000000000). le-ltb 1000000000000 (capped ns) (omega arith) ∙ sym (le-ltb 1000000000000 ns h)) (lt-or-ge 1000000000000 ns)
+
+        pub long-other : sameZ kind (pos 1) ≡ false → false ≡ isLong e q rows n samples k
+        unfolding isLong
+        long-other f = rw (← p, f)
+
+      pub outlasts-block : sameZ kind (pos 1) ≡ true → (r : Bool) (ns most : ℕ) → ns ≡ capped (blockLength V14 q rows n samples k)
+          → most ≡ capped (longestEvent V14 q rows n samples k) → r ≡ ltb ns most → r ≡ outlastsAt q rows n samples k
+      unfolding outlastsAt
+      outlasts-block f r ns most b l t = t ∙ rw (← p, f, b, l)
+
+      pub outlasts-other : sameZ kind (pos 1) ≡ false → false ≡ outlastsAt q rows n samples k
+      unfolding outlastsAt
+      outlasts-other f = rw (← p, f)

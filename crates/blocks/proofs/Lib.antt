@@ -1,0 +1,2 @@
+-- The laws of chains and blocks.
+pub mod Lasting

@@ -1,0 +1,60 @@
+-- `blocks::block_length` meets its contract. Assumes nothing.
+use mathlib.Core.Path.{_∙_}
+use Rattle.signed.proofs.Machine.{rd-at}
+use Rattle.blocks.proofs.Lasting.{block-13, block-14}
+use borrow.Author.Needs.{needs}
+use Rattle.blocks.proofs.block_length.Statement.{statement}
+use Rattle.blocks.proofs.block_length.Tie as tie
+use Rattle.blocks.proofs.block_length.Reads as reads
+use Rattle.blocks.proofs.block_length.Lts as lts
+use Rattle.blocks.proofs.longest_event.Reads as longest-event-reads
+use Rattle.signed.proofs.size.Reads as size-reads
+use Rattle.tables.proofs.number.Reads as number-reads
+use Rattle.unit.proofs.RasterCount.nanos.Reads as nanos-reads
+
+-- src/lib.rt:117:39
+enum-told : tie.Need-enum-told
+enum-told c = search needs
+
+-- src/lib.rt:117:25
+longest-event-requires : tie.Need-longest-event-requires
+longest-event-requires c κs = search needs
+
+-- src/lib.rt:119:53
+enum-told-2 : tie.Need-enum-told-2
+enum-told-2 c = search needs
+
+-- src/lib.rt:119:53
+number-requires : tie.Need-number-requires
+number-requires c κs = search needs
+
+-- src/lib.rt:119:40
+size-requires : tie.Need-size-requires
+size-requires c κs = search needs
+
+-- src/lib.rt:120:13
+nanos-requires : tie.Need-nanos-requires
+nanos-requires c κs = search needs
+
+-- src/lib.rt:106:1
+returns : tie.Need-returns
+returns c = c .longest-event .ensures ∙ block-13 _ _ _ _ _ _ (c .before .enum-told .given .1)
+
+-- src/lib.rt:106:1
+returns-2 : tie.Need-returns-2
+returns-2 c = let s = c .before in
+    let m = s .before .number in
+    block-14 _ _ _ _ _ _ (s .before .before .enum-told2 .given .1) _ _ _ (rd-at _ (m .ok) ∙ m .ensures) (s .size .ensures) (c .nanos .ensures)
+
+pub block-length-spec : {M : Type 1} → statement M
+block-length-spec =
+    tie.close
+    (tie.spec
+    enum-told
+    longest-event-requires
+    enum-told-2
+    number-requires
+    size-requires
+    nanos-requires
+    returns
+    returns-2)

@@ -1,0 +1,40 @@
+-- `blocks::entry_length` meets its contract. Assumes nothing.
+use mathlib.Core.Path.{_∙_}
+use Rattle.signed.proofs.Machine.{rd-at}
+use Rattle.blocks.proofs.Lasting.{entry-is}
+use borrow.Author.Needs.{needs}
+use Rattle.blocks.proofs.entry_length.Statement.{statement}
+use Rattle.blocks.proofs.entry_length.Tie as tie
+use Rattle.blocks.proofs.entry_length.Reads as reads
+use Rattle.blocks.proofs.entry_length.Lts as lts
+use Rattle.blocks.proofs.met_length.Reads as met-length-reads
+use Rattle.references.proofs.extension_ref.Reads as extension-ref-reads
+use Rattle.tables.proofs.number.Reads as number-reads
+
+-- src/lib.rt:125:52
+number-requires : tie.Need-number-requires
+number-requires c κs = search needs
+
+-- src/lib.rt:125:9
+extension-ref-requires : tie.Need-extension-ref-requires
+extension-ref-requires c κs = search needs
+
+-- src/lib.rt:132:9
+number-requires-2 : tie.Need-number-requires-2
+number-requires-2 c κs = search needs
+
+-- src/lib.rt:126:5
+met-length-requires : tie.Need-met-length-requires
+met-length-requires c κs = search needs
+
+-- src/lib.rt:122:1
+returns : tie.Need-returns
+returns c = let i = c .before .number2 in
+    let x = c .before .before .extension-ref in
+    let t = c .before .before .before .number in
+    c .met-length .ensures ∙ entry-is _ _ _ _ _ _ _ _ _ _ (rd-at _ (t .ok) ∙ t .ensures) (x .ensures) (rd-at _ (x .ok)) (i .ensures) (rd-at _ (i .ok))
+
+pub entry-length-spec : {M : Type 1} → statement M
+entry-length-spec =
+    tie.close
+    (tie.spec number-requires extension-ref-requires number-requires-2 met-length-requires returns)

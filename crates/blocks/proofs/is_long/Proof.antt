@@ -1,0 +1,54 @@
+-- `blocks::is_long` meets its contract. Assumes nothing.
+use mathlib.Core.Path.{refl, _∙_}
+use Rattle.signed.proofs.Machine.{rd-at}
+use Rattle.tables.proofs.Numbers.{compared}
+use Rattle.blocks.proofs.Lasting.{long-block, long-other}
+use borrow.Author.Needs.{needs}
+use Rattle.blocks.proofs.is_long.Statement.{statement}
+use Rattle.blocks.proofs.is_long.Tie as tie
+use Rattle.blocks.proofs.is_long.Reads as reads
+use Rattle.blocks.proofs.is_long.Lts as lts
+use Rattle.blocks.proofs.block_length.Reads as block-length-reads
+use Rattle.signed.proofs.same.Reads as same-reads
+use Rattle.tables.proofs.number.Reads as number-reads
+use Rattle.unit.proofs.Nanos.exceeds.Reads as exceeds-reads
+
+-- src/lib.rt:136:21
+number-requires : tie.Need-number-requires
+number-requires c κs = search needs
+
+-- src/lib.rt:136:8
+same-requires : tie.Need-same-requires
+same-requires c κs = search needs
+
+-- src/lib.rt:137:13
+block-length-requires : tie.Need-block-length-requires
+block-length-requires c κs = search needs
+
+-- src/lib.rt:138:9
+exceeds-requires : tie.Need-exceeds-requires
+exceeds-requires c κs = search needs
+
+-- src/lib.rt:138:9
+returns : tie.Need-returns
+returns c = let b = c .before in
+    let s = b .before .before in
+    let m = s .before .number in
+    long-block _ _ _ _ _ _ (m .ensures) _ (compared _ _ _ _ (s .same .ensures) (rd-at _ (m .ok)) refl ∙ b .before .if1 .taken) _ _ (b .block-length .ensures) (c .exceeds .ensures)
+
+-- src/lib.rt:126:1
+returns-2 : tie.Need-returns-2
+returns-2 c = let s = c .before in
+    let m = s .before .number in
+    long-other _ _ _ _ _ _ (m .ensures) _ (compared _ _ _ _ (s .same .ensures) (rd-at _ (m .ok)) refl ∙ c .if1 .left)
+
+pub is-long-spec : {M : Type 1} → statement M
+is-long-spec =
+    tie.close
+    (tie.spec
+    number-requires
+    same-requires
+    block-length-requires
+    exceeds-requires
+    returns
+    returns-2)

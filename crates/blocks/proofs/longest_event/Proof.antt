@@ -1,0 +1,77 @@
+-- `blocks::longest_event` meets its contract. The loop's invariant: the longest of all is the longest so far or of those that are left. Assumes nothing.
+use borrow.Author.Needs.{needs}
+use Prim.Native.Nat.{_-_}
+use mathlib.Core.Path.{_∙_}
+use native.Mathlib.Omega.{arith}
+use Rattle.signed.proofs.Machine.{rd-at}
+use Rattle.blocks.proofs.Lasting.{Longest, longest-start, longest-turn, longest-end}
+use Rattle.blocks.proofs.longest_event.Statement.{statement}
+use Rattle.blocks.proofs.longest_event.Tie as tie
+use Rattle.blocks.proofs.longest_event.Reads as reads
+use Rattle.blocks.proofs.longest_event.Lts as lts
+use Rattle.blocks.proofs.reference_length.Reads as reference-length-reads
+use Rattle.references.proofs.ref_at.Reads as ref-at-reads
+use Rattle.tables.proofs.number.Reads as number-reads
+use Rattle.unit.proofs.Nanos.longer.Reads as longer-reads
+
+abbrev Inv-loop : tie.InvT-loop
+Inv-loop edition rasters rows n samples k longest₀ c₀ longest c = Longest rasters rows n samples edition k (longest .0) c
+
+abbrev μ-loop : tie.MeasureT-loop
+μ-loop edition rasters rows n samples k longest₀ c₀ longest c = 9 - c
+
+-- src/lib.rt:96:5
+loop-holds : tie.Need-loop-holds Inv-loop μ-loop
+loop-holds c = longest-start _ _ _ _ _ _
+
+-- src/lib.rt:97:13
+ref-at-requires : tie.Need-ref-at-requires Inv-loop μ-loop
+ref-at-requires c κs = search needs
+
+-- src/lib.rt:98:13
+number-requires : tie.Need-number-requires Inv-loop μ-loop
+number-requires c κs = search needs
+
+-- src/lib.rt:99:34
+reference-length-requires : tie.Need-reference-length-requires Inv-loop μ-loop
+reference-length-requires c κs = search needs
+
+-- src/lib.rt:99:9
+longer-requires : tie.Need-longer-requires Inv-loop μ-loop
+longer-requires c κs = search needs
+
+-- src/lib.rt:100:9
+add-c : tie.Need-add-c Inv-loop μ-loop
+add-c c = search needs
+
+-- src/lib.rt:96:5
+loop-less : tie.Need-loop-less Inv-loop μ-loop
+loop-less c = omega arith
+
+-- src/lib.rt:96:5
+loop-again : tie.Need-loop-again Inv-loop μ-loop
+loop-again c = let r = c .before in
+    let i = r .before .number in
+    let x = r .before .before in
+    let l = x .before in
+    longest-turn _ _ _ _ _ _ _ _ _ _ _ _ _ _ (l .before .loop .inv) (l .loop-test .taken) (x .ref-at .ensures) (rd-at _ (x .ref-at .ok)) (i .ensures) (rd-at _ (i .ok)) (r .reference-length .ensures) (c .longer .ensures)
+
+-- src/lib.rt:84:1
+returns : tie.Need-returns Inv-loop μ-loop
+returns c = longest-end _ _ _ _ _ _ _ _ (c .before .loop .inv) (c .loop-test .left)
+
+pub longest-event-spec : {M : Type 1} → statement M
+longest-event-spec =
+    tie.close
+    (tie.spec
+    Inv-loop
+    μ-loop
+    loop-holds
+    ref-at-requires
+    number-requires
+    reference-length-requires
+    longer-requires
+    add-c
+    loop-less
+    loop-again
+    returns)

@@ -1,0 +1,61 @@
+-- `blocks::outlasts` meets its contract. Assumes nothing.
+use mathlib.Core.Path.{refl, _∙_}
+use Rattle.signed.proofs.Machine.{rd-at}
+use Rattle.tables.proofs.Numbers.{compared}
+use Rattle.blocks.proofs.Lasting.{outlasts-block, outlasts-other}
+use borrow.Author.Needs.{needs}
+use Rattle.blocks.proofs.outlasts.Statement.{statement}
+use Rattle.blocks.proofs.outlasts.Tie as tie
+use Rattle.blocks.proofs.outlasts.Reads as reads
+use Rattle.blocks.proofs.outlasts.Lts as lts
+use Rattle.blocks.proofs.block_length.Reads as block-length-reads
+use Rattle.blocks.proofs.longest_event.Reads as longest-event-reads
+use Rattle.signed.proofs.same.Reads as same-reads
+use Rattle.tables.proofs.number.Reads as number-reads
+use Rattle.unit.proofs.Nanos.exceeds.Reads as exceeds-reads
+
+-- src/lib.rt:147:21
+number-requires : tie.Need-number-requires
+number-requires c κs = search needs
+
+-- src/lib.rt:147:8
+same-requires : tie.Need-same-requires
+same-requires c κs = search needs
+
+-- src/lib.rt:148:13
+block-length-requires : tie.Need-block-length-requires
+block-length-requires c κs = search needs
+
+-- src/lib.rt:149:16
+longest-event-requires : tie.Need-longest-event-requires
+longest-event-requires c κs = search needs
+
+-- src/lib.rt:149:9
+exceeds-requires : tie.Need-exceeds-requires
+exceeds-requires c κs = search needs
+
+-- src/lib.rt:149:9
+returns : tie.Need-returns
+returns c = let l = c .before in
+    let b = l .before in
+    let s = b .before .before in
+    let m = s .before .number in
+    outlasts-block _ _ _ _ _ _ (m .ensures) (compared _ _ _ _ (s .same .ensures) (rd-at _ (m .ok)) refl ∙ b .before .if1 .taken) _ _ _ (b .block-length .ensures) (l .longest-event .ensures) (c .exceeds .ensures)
+
+-- src/lib.rt:144:1
+returns-2 : tie.Need-returns-2
+returns-2 c = let s = c .before in
+    let m = s .before .number in
+    outlasts-other _ _ _ _ _ _ (m .ensures) (compared _ _ _ _ (s .same .ensures) (rd-at _ (m .ok)) refl ∙ c .if1 .left)
+
+pub outlasts-spec : {M : Type 1} → statement M
+outlasts-spec =
+    tie.close
+    (tie.spec
+    number-requires
+    same-requires
+    block-length-requires
+    longest-event-requires
+    exceeds-requires
+    returns
+    returns-2)

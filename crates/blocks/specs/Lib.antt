@@ -1,0 +1,2 @@
+-- What must be believed of chains and blocks.
+pub mod Blocks

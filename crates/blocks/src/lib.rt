@@ -1,0 +1,145 @@
+// How long blocks and extension chains last, and what is asked of blocks: LONG and OUTLASTS.
+ghost use mathlib.Core.Path.{_≡_};
+ghost use Rattle.unit.specs.Time.{capped};
+ghost use Rattle.blocks.specs.Blocks.{metLength, entryLength, chainLength, referenceLength, longestEvent, blockLength, isLong, outlastsAt};
+use shape::Edition;
+use unit::Nanos;
+use unit::RasterCount;
+use unit::Rasters;
+
+// The length of the event that a reference meets; 0 if it meets none.
+fn met_length(
+    rasters: Rasters,
+    rows: &[i64],
+    n: usize,
+    samples: &[i64],
+    class: i64,
+    id: i64,
+) -> Nanos
+    ensures { λ r. ⌜ r .0 ≡ capped (metLength rasters (now (rows .entry)) n (now (samples .entry)) class id) ⌝ }
+{
+    let k = tables::met_row(rows, n, class, id);
+    if k < n {
+        return lengths::row_length(rasters, rows, n, samples, k);
+    }
+    Nanos(0)
+}
+
+// The length of what entry k refers to.
+fn entry_length(rasters: Rasters, rows: &[i64], n: usize, samples: &[i64], k: usize) -> Nanos
+    ensures { λ r. ⌜ r .0 ≡ capped (entryLength rasters (now (rows .entry)) n (now (samples .entry)) k) ⌝ }
+{
+    let class = references::extension_ref(rows, n, tables::number(rows, k, 2));
+    met_length(rasters, rows, n, samples, class, tables::number(rows, k, 3))
+}
+
+// The longest event of the chain from entry k on, of which so many entries are left to count.
+fn chain_length(
+    rasters: Rasters,
+    rows: &[i64],
+    n: usize,
+    samples: &[i64],
+    k: usize,
+    left: usize,
+) -> Nanos
+    ensures { λ r. ⌜ r .0 ≡ capped (chainLength rasters (now (rows .entry)) n (now (samples .entry)) left k) ⌝ }
+{
+    if left == 0 {
+        return Nanos(0);
+    }
+    if n <= k {
+        return Nanos(0);
+    }
+    let own = entry_length(rasters, rows, n, samples, k);
+    let next = chains::next_entry(rows, n, k);
+    own.longer(chain_length(rasters, rows, n, samples, next, left - 1))
+}
+
+// How long that lasts which a number of a block refers to: an event, or a chain of entries.
+fn reference_length(
+    rasters: Rasters,
+    rows: &[i64],
+    n: usize,
+    samples: &[i64],
+    class: i64,
+    id: i64,
+) -> Nanos
+    ensures { λ r. ⌜ r .0 ≡ capped (referenceLength rasters (now (rows .entry)) n (now (samples .entry)) class id) ⌝ }
+{
+    if signed::same(class, 7) {
+        let k = tables::met_row(rows, n, class, id);
+        return chain_length(rasters, rows, n, samples, k, 256);
+    }
+    met_length(rasters, rows, n, samples, class, id)
+}
+
+// The longest event of block k.
+pub fn longest_event(
+    edition: Edition,
+    rasters: Rasters,
+    rows: &[i64],
+    n: usize,
+    samples: &[i64],
+    k: usize,
+) -> Nanos
+    ensures { λ r. ⌜ r .0 ≡ capped (longestEvent edition rasters (now (rows .entry)) n (now (samples .entry)) k) ⌝ }
+{
+    let mut longest = Nanos(0);
+    let mut c: usize = 2;
+    while c < 9 {
+        let class = references::ref_at(edition, rows, n, k, c);
+        let id = tables::number(rows, k, c);
+        longest = longest.longer(reference_length(rasters, rows, n, samples, class, id));
+        c += 1;
+    }
+    longest
+}
+
+// How long block k lasts.
+pub fn block_length(
+    edition: Edition,
+    rasters: Rasters,
+    rows: &[i64],
+    n: usize,
+    samples: &[i64],
+    k: usize,
+) -> Nanos
+    ensures { λ r. ⌜ r .0 ≡ capped (blockLength edition rasters (now (rows .entry)) n (now (samples .entry)) k) ⌝ }
+{
+    match edition {
+        Edition::V13 => longest_event(Edition::V13, rasters, rows, n, samples, k),
+        Edition::V14 => {
+            let duration = RasterCount(signed::size(tables::number(rows, k, 2)));
+            duration.nanos(rasters.block)
+        }
+    }
+}
+
+// Is row k a block over 10^12 ns?
+pub fn is_long(
+    edition: Edition,
+    rasters: Rasters,
+    rows: &[i64],
+    n: usize,
+    samples: &[i64],
+    k: usize,
+) -> bool
+    ensures { λ r. ⌜ r ≡ isLong edition rasters (now (rows .entry)) n (now (samples .entry)) k ⌝ }
+{
+    if signed::same(tables::number(rows, k, 0), 1) {
+        let ns = block_length(edition, rasters, rows, n, samples, k);
+        return ns.exceeds(Nanos(1000000000000));
+    }
+    false
+}
+
+// Is row k a block of 1.4 that an event outlasts?
+pub fn outlasts(rasters: Rasters, rows: &[i64], n: usize, samples: &[i64], k: usize) -> bool
+    ensures { λ r. ⌜ r ≡ outlastsAt rasters (now (rows .entry)) n (now (samples .entry)) k ⌝ }
+{
+    if signed::same(tables::number(rows, k, 0), 1) {
+        let ns = block_length(Edition::V14, rasters, rows, n, samples, k);
+        return longest_event(Edition::V14, rasters, rows, n, samples, k).exceeds(ns);
+    }
+    false
+}

@@ -1,0 +1,3 @@
+-- The laws of events by themselves.
+pub mod Fitting
+pub mod Aligning

@@ -1,0 +1,40 @@
+-- `events::micros_off` meets its contract. Assumes nothing.
+use mathlib.Core.Path.{ap, _∙_}
+use lib.IntN.{natAbs}
+use Rattle.signed.proofs.Machine.{rd-at}
+use Rattle.events.proofs.Aligning.{micros-are}
+use borrow.Author.Needs.{needs}
+use Rattle.events.proofs.micros_off.Statement.{statement}
+use Rattle.events.proofs.micros_off.Tie as tie
+use Rattle.events.proofs.micros_off.Reads as reads
+use Rattle.events.proofs.micros_off.Lts as lts
+use Rattle.events.proofs.off.Reads as off-reads
+use Rattle.signed.proofs.size.Reads as size-reads
+use Rattle.tables.proofs.number.Reads as number-reads
+use Rattle.unit.proofs.Micros.nanos.Reads as nanos-reads
+
+-- src/lib.rt:118:36
+number-requires : tie.Need-number-requires
+number-requires c κs = search needs
+
+-- src/lib.rt:118:23
+size-requires : tie.Need-size-requires
+size-requires c κs = search needs
+
+-- src/lib.rt:119:9
+nanos-requires : tie.Need-nanos-requires
+nanos-requires c κs = search needs
+
+-- src/lib.rt:119:5
+off-requires : tie.Need-off-requires
+off-requires c κs = search needs
+
+-- src/lib.rt:115:1
+returns : tie.Need-returns
+returns c = let s = c .before .before in
+    let m = s .before .number in
+    c .off .ensures ∙ micros-are _ _ _ _ _ _ _ (rd-at _ (m .ok) ∙ m .ensures) (s .size .ensures) (c .before .nanos .ensures)
+
+pub micros-off-spec : {M : Type 1} → statement M
+micros-off-spec =
+    tie.close (tie.spec number-requires size-requires nanos-requires off-requires returns)

@@ -1,0 +1,60 @@
+-- `events::rf_fits` meets its contract. Assumes nothing.
+use mathlib.Core.Path.{_∙_}
+use Rattle.signed.proofs.Machine.{rd-at}
+use Rattle.events.proofs.Fitting.{rf-counts, rf-other}
+use borrow.Author.Needs.{needs}
+use Rattle.events.proofs.rf_fits.Statement.{statement}
+use Rattle.events.proofs.rf_fits.Tie as tie
+use Rattle.events.proofs.rf_fits.Reads as reads
+use Rattle.events.proofs.rf_fits.Lts as lts
+use Rattle.events.proofs.shaped_fits.Reads as shaped-fits-reads
+use Rattle.tables.proofs.number.Reads as number-reads
+use Rattle.tables.proofs.samples_of.Reads as samples-of-reads
+
+-- src/lib.rt:82:58
+number-requires : tie.Need-number-requires
+number-requires c κs = search needs
+
+-- src/lib.rt:82:9
+samples-of-requires : tie.Need-samples-of-requires
+samples-of-requires c κs = search needs
+
+-- src/lib.rt:83:54
+number-requires-2 : tie.Need-number-requires-2
+number-requires-2 c κs = search needs
+
+-- src/lib.rt:83:9
+samples-of-requires-2 : tie.Need-samples-of-requires-2
+samples-of-requires-2 c κs = search needs
+
+-- src/lib.rt:85:9
+shaped-fits-requires : tie.Need-shaped-fits-requires
+shaped-fits-requires c κs = search needs
+
+-- src/lib.rt:85:9
+returns : tie.Need-returns
+returns c = let t = c .before .before in
+    let s = t .before .before in
+    let b = t .before .number2 in
+    let a = s .before .number in
+    c .shaped-fits .ensures ∙ rf-counts _ _ _ _ _ _ (rd-at _ (a .ok) ∙ a .ensures) (s .samples-of .ensures) _ _ (rd-at _ (b .ok) ∙ b .ensures) (t .samples-of2 .ensures) (c .before .if1 .taken)
+
+-- src/lib.rt:79:1
+returns-2 : tie.Need-returns-2
+returns-2 c = let t = c .before in
+    let s = t .before .before in
+    let b = t .before .number2 in
+    let a = s .before .number in
+    rf-other _ _ _ _ _ _ (rd-at _ (a .ok) ∙ a .ensures) (s .samples-of .ensures) _ _ (rd-at _ (b .ok) ∙ b .ensures) (t .samples-of2 .ensures) (c .if1 .left)
+
+pub rf-fits-spec : {M : Type 1} → statement M
+rf-fits-spec =
+    tie.close
+    (tie.spec
+    number-requires
+    samples-of-requires
+    number-requires-2
+    samples-of-requires-2
+    shaped-fits-requires
+    returns
+    returns-2)

@@ -1,0 +1,65 @@
+-- `lengths::adc_length` meets its contract. Assumes nothing.
+use mathlib.Core.Path.{_∙_}
+use Rattle.signed.proofs.Machine.{rd-at}
+use Rattle.lengths.proofs.Measured.{adc-is}
+use borrow.Author.Needs.{needs}
+use Rattle.lengths.proofs.adc_length.Statement.{statement}
+use Rattle.lengths.proofs.adc_length.Tie as tie
+use Rattle.lengths.proofs.adc_length.Reads as reads
+use Rattle.lengths.proofs.adc_length.Lts as lts
+use Rattle.lengths.proofs.micros.Reads as micros-reads
+use Rattle.signed.proofs.size.Reads as size-reads
+use Rattle.tables.proofs.number.Reads as number-reads
+use Rattle.unit.proofs.Nanos.plus.Reads as plus-reads
+use Rattle.unit.proofs.RasterCount.nanos.Reads as nanos-reads
+
+-- src/lib.rt:72:42
+number-requires : tie.Need-number-requires
+number-requires c κs = search needs
+
+-- src/lib.rt:72:29
+size-requires : tie.Need-size-requires
+size-requires c κs = search needs
+
+-- src/lib.rt:73:36
+number-requires-2 : tie.Need-number-requires-2
+number-requires-2 c κs = search needs
+
+-- src/lib.rt:73:23
+size-requires-2 : tie.Need-size-requires-2
+size-requires-2 c κs = search needs
+
+-- src/lib.rt:74:5
+micros-requires : tie.Need-micros-requires
+micros-requires c κs = search needs
+
+-- src/lib.rt:74:29
+nanos-requires : tie.Need-nanos-requires
+nanos-requires c κs = search needs
+
+-- src/lib.rt:74:5
+plus-requires : tie.Need-plus-requires
+plus-requires c κs = search needs
+
+-- src/lib.rt:69:1
+returns : tie.Need-returns
+returns c = let y = c .before in
+    let w = y .before in
+    let t = w .before in
+    let b = t .before .number2 in
+    let s = t .before .before in
+    let a = s .before .number in
+    adc-is _ _ _ _ _ _ _ _ _ (rd-at _ (a .ok) ∙ a .ensures) (s .size .ensures) (rd-at _ (b .ok) ∙ b .ensures) (t .size2 .ensures) (w .micros .ensures) (y .nanos .ensures) (c .plus .ensures)
+
+pub adc-length-spec : {M : Type 1} → statement M
+adc-length-spec =
+    tie.close
+    (tie.spec
+    number-requires
+    size-requires
+    number-requires-2
+    size-requires-2
+    micros-requires
+    nanos-requires
+    plus-requires
+    returns)

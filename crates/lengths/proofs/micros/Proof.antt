@@ -1,0 +1,33 @@
+-- `lengths::micros` meets its contract. Assumes nothing.
+use mathlib.Core.Path.{_∙_}
+use Rattle.signed.proofs.Machine.{rd-at}
+use Rattle.lengths.proofs.Measured.{micros-is}
+use borrow.Author.Needs.{needs}
+use Rattle.lengths.proofs.micros.Statement.{statement}
+use Rattle.lengths.proofs.micros.Tie as tie
+use Rattle.lengths.proofs.micros.Reads as reads
+use Rattle.lengths.proofs.micros.Lts as lts
+use Rattle.signed.proofs.size.Reads as size-reads
+use Rattle.tables.proofs.number.Reads as number-reads
+use Rattle.unit.proofs.Micros.nanos.Reads as nanos-reads
+
+-- src/lib.rt:15:36
+number-requires : tie.Need-number-requires
+number-requires c κs = search needs
+
+-- src/lib.rt:15:23
+size-requires : tie.Need-size-requires
+size-requires c κs = search needs
+
+-- src/lib.rt:16:5
+nanos-requires : tie.Need-nanos-requires
+nanos-requires c κs = search needs
+
+-- src/lib.rt:12:1
+returns : tie.Need-returns
+returns c = let s = c .before in
+    let m = s .before .number in
+    micros-is _ _ _ _ _ _ (rd-at _ (m .ok) ∙ m .ensures) (s .size .ensures) (c .nanos .ensures)
+
+pub micros-spec : {M : Type 1} → statement M
+micros-spec = tie.close (tie.spec number-requires size-requires nanos-requires returns)

@@ -1,0 +1,37 @@
+-- `lengths::shaped_length` meets its contract. Assumes nothing.
+use Rattle.lengths.proofs.Measured.{shaped-is}
+use borrow.Author.Needs.{needs}
+use Rattle.lengths.proofs.shaped_length.Statement.{statement}
+use Rattle.lengths.proofs.shaped_length.Tie as tie
+use Rattle.lengths.proofs.shaped_length.Reads as reads
+use Rattle.lengths.proofs.shaped_length.Lts as lts
+use Rattle.lengths.proofs.micros.Reads as micros-reads
+use Rattle.lengths.proofs.steps.Reads as steps-reads
+use Rattle.unit.proofs.Nanos.plus.Reads as plus-reads
+use Rattle.unit.proofs.RasterCount.nanos.Reads as nanos-reads
+
+-- src/lib.rt:55:18
+steps-requires : tie.Need-steps-requires
+steps-requires c κs = search needs
+
+-- src/lib.rt:55:9
+nanos-requires : tie.Need-nanos-requires
+nanos-requires c κs = search needs
+
+-- src/lib.rt:56:5
+micros-requires : tie.Need-micros-requires
+micros-requires c κs = search needs
+
+-- src/lib.rt:56:5
+plus-requires : tie.Need-plus-requires
+plus-requires c κs = search needs
+
+-- src/lib.rt:44:1
+returns : tie.Need-returns
+returns c = let m = c .before in
+    let p = m .before in
+    shaped-is _ _ _ _ _ _ _ _ _ _ _ (m .micros .ensures) (p .before .steps .ensures) (p .nanos .ensures) (c .plus .ensures)
+
+pub shaped-length-spec : {M : Type 1} → statement M
+shaped-length-spec =
+    tie.close (tie.spec steps-requires nanos-requires micros-requires plus-requires returns)

@@ -1,0 +1,86 @@
+-- `rasters::rasters` meets its contract. Assumes nothing.
+use mathlib.Core.Path.{_∙_, ap}
+use Rattle.rasters.specs.Rasters.{rasterOf, gradientKey, rfKey, adcKey, blockKey}
+use Rattle.rasters.proofs.Reading.{four-are}
+use borrow.Author.Needs.{needs}
+use Rattle.rasters.proofs.rasters.Statement.{statement}
+use Rattle.rasters.proofs.rasters.Tie as tie
+use Rattle.rasters.proofs.rasters.Reads as reads
+use Rattle.rasters.proofs.rasters.Lts as lts
+use Rattle.rasters.proofs.raster.Reads as raster-reads
+use Rattle.rasters.proofs.text_of.Reads as text-of-reads
+
+-- src/lib.rt:37:56
+slice-aggregate-text-of : tie.Need-slice-aggregate-text-of
+slice-aggregate-text-of c = search needs
+
+-- src/lib.rt:37:27
+text-of-requires : tie.Need-text-of-requires
+text-of-requires c κs = search needs
+
+-- src/lib.rt:37:9
+raster-requires : tie.Need-raster-requires
+raster-requires c κs = search needs
+
+-- src/lib.rt:38:50
+slice-aggregate-text-of-2 : tie.Need-slice-aggregate-text-of-2
+slice-aggregate-text-of-2 c = search needs
+
+-- src/lib.rt:38:21
+text-of-requires-2 : tie.Need-text-of-requires-2
+text-of-requires-2 c κs = search needs
+
+-- src/lib.rt:38:9
+raster-requires-2 : tie.Need-raster-requires-2
+raster-requires-2 c κs = search needs
+
+-- src/lib.rt:39:51
+slice-aggregate-text-of-3 : tie.Need-slice-aggregate-text-of-3
+slice-aggregate-text-of-3 c = search needs
+
+-- src/lib.rt:39:22
+text-of-requires-3 : tie.Need-text-of-requires-3
+text-of-requires-3 c κs = search needs
+
+-- src/lib.rt:39:9
+raster-requires-3 : tie.Need-raster-requires-3
+raster-requires-3 c κs = search needs
+
+-- src/lib.rt:40:53
+slice-aggregate-text-of-4 : tie.Need-slice-aggregate-text-of-4
+slice-aggregate-text-of-4 c = search needs
+
+-- src/lib.rt:40:24
+text-of-requires-4 : tie.Need-text-of-requires-4
+text-of-requires-4 c κs = search needs
+
+-- src/lib.rt:40:9
+raster-requires-4 : tie.Need-raster-requires-4
+raster-requires-4 c κs = search needs
+
+-- src/lib.rt:34:1
+returns : tie.Need-returns
+unfolding gradientKey rfKey adcKey blockKey
+returns c = let d = c .before in
+    let c′ = d .before .before in
+    let b = c′ .before .before .before in
+    let a = b .before .before .before in
+    four-are _ _ _ _ _ _ _ (a .raster .ensures ∙ ap rasterOf (a .before .text-of .ensures)) (b .raster2 .ensures ∙ ap rasterOf (b .before .text-of2 .ensures)) (c′ .raster3 .ensures ∙ ap rasterOf (c′ .before .text-of3 .ensures)) (c .raster4 .ensures ∙ ap rasterOf (d .text-of4 .ensures))
+
+pub rasters-spec : {M : Type 1} → statement M
+rasters-spec =
+    tie.close
+    (tie.spec
+    slice-aggregate-text-of
+    text-of-requires
+    raster-requires
+    slice-aggregate-text-of-2
+    text-of-requires-2
+    raster-requires-2
+    slice-aggregate-text-of-3
+    text-of-requires-3
+    raster-requires-3
+    slice-aggregate-text-of-4
+    text-of-requires-4
+    raster-requires-4
+    returns)

@@ -1,0 +1,3 @@
+-- The laws of the rules.
+pub mod Alike
+pub mod Filling

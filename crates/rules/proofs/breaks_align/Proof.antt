@@ -1,0 +1,35 @@
+-- `rules::breaks_align` meets its contract. Assumes nothing.
+use mathlib.Core.Path.{_∙_}
+use Rattle.rules.specs.Rules.{alignBroken}
+use borrow.Author.Needs.{needs}
+use Rattle.rules.proofs.breaks_align.Statement.{statement}
+use Rattle.rules.proofs.breaks_align.Tie as tie
+use Rattle.rules.proofs.breaks_align.Reads as reads
+use Rattle.rules.proofs.breaks_align.Lts as lts
+use Rattle.events.proofs.misaligned.Reads as misaligned-reads
+
+-- src/lib.rt:40:25
+enum-told : tie.Need-enum-told
+enum-told c = search needs
+
+-- src/lib.rt:41:25
+enum-told-2 : tie.Need-enum-told-2
+enum-told-2 c = search needs
+
+-- src/lib.rt:41:25
+misaligned-requires : tie.Need-misaligned-requires
+misaligned-requires c κs = search needs
+
+-- src/lib.rt:36:1
+returns : tie.Need-returns
+unfolding alignBroken
+returns c = rw (c .enum-told .given .1)
+
+-- src/lib.rt:36:1
+returns-2 : tie.Need-returns-2
+unfolding alignBroken
+returns-2 c = c .misaligned .ensures ∙ rw (c .before .enum-told2 .given .1)
+
+pub breaks-align-spec : {M : Type 1} → statement M
+breaks-align-spec =
+    tie.close (tie.spec enum-told enum-told-2 misaligned-requires returns returns-2)

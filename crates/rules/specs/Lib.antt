@@ -1,0 +1,3 @@
+-- What must be believed of the rules over the tables, in the paper's order.
+pub mod Rules
+pub mod Filled

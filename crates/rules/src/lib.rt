@@ -1,0 +1,149 @@
+// The rules over the tables, from REFERENCE to OUTLASTS: each is asked of one row, and answered at the first row for which it is broken. And what
+// the tables hold when all have passed: a block's length.
+ghost use mathlib.Core.Path.{_≡_};
+ghost use Rattle.rules.specs.Rules.{ruleNumber, alignBroken, outlastsBroken, isBroken, firstBroken};
+ghost use Rattle.rules.specs.Filled.{lengthNumber, withLength, filled};
+use shape::Edition;
+use unit::Rasters;
+
+// What is asked of each row, in the paper's order.
+pub enum Rule {
+    Reference,
+    Loop,
+    Use,
+    Align,
+    Long,
+    Outlasts,
+}
+
+impl Rule {
+    // The paper's number of this rule.
+    pub fn number(self) -> u64
+        ensures { λ r. ⌜ r ≡ ruleNumber self ⌝ }
+    {
+        match self {
+            Rule::Reference => 12,
+            Rule::Loop => 13,
+            Rule::Use => 14,
+            Rule::Align => 15,
+            Rule::Long => 16,
+            Rule::Outlasts => 17,
+        }
+    }
+}
+
+// Does row k break ALIGN, which is asked in 1.4?
+fn breaks_align(edition: Edition, rasters: Rasters, rows: &[i64], k: usize) -> bool
+    ensures { λ r. ⌜ r ≡ alignBroken edition rasters (now (rows .entry)) k ⌝ }
+{
+    match edition {
+        Edition::V13 => false,
+        Edition::V14 => events::misaligned(rasters, rows, k),
+    }
+}
+
+// Does row k break OUTLASTS, which is asked in 1.4?
+fn breaks_outlasts(
+    edition: Edition,
+    rasters: Rasters,
+    rows: &[i64],
+    n: usize,
+    samples: &[i64],
+    k: usize,
+) -> bool
+    ensures { λ r. ⌜ r ≡ outlastsBroken edition rasters (now (rows .entry)) n (now (samples .entry)) k ⌝ }
+{
+    match edition {
+        Edition::V13 => false,
+        Edition::V14 => blocks::outlasts(rasters, rows, n, samples, k),
+    }
+}
+
+// Does row k, of n rows, break a rule?
+pub fn is_broken(
+    rule: Rule,
+    edition: Edition,
+    rasters: Rasters,
+    rows: &[i64],
+    n: usize,
+    samples: &[i64],
+    k: usize,
+) -> bool
+    ensures { λ r. ⌜ r ≡ isBroken rule edition rasters (now (rows .entry)) n (now (samples .entry)) k ⌝ }
+{
+    match rule {
+        Rule::Reference => references::dangles(edition, rows, n, k),
+        Rule::Loop => chains::loops(rows, n, k),
+        Rule::Use => events::misfits(rows, n, samples, k),
+        Rule::Align => breaks_align(edition, rasters, rows, k),
+        Rule::Long => blocks::is_long(edition, rasters, rows, n, samples, k),
+        Rule::Outlasts => breaks_outlasts(edition, rasters, rows, n, samples, k),
+    }
+}
+
+// The first of n rows that breaks a rule; n if none does.
+pub fn first_broken(
+    rule: Rule,
+    edition: Edition,
+    rasters: Rasters,
+    rows: &[i64],
+    n: usize,
+    samples: &[i64],
+) -> usize
+    ensures { λ r. ⌜ r ≡ firstBroken rule edition rasters (now (rows .entry)) n (now (samples .entry)) ⌝ }
+{
+    let mut k: usize = 0;
+    while k < n {
+        if is_broken(rule, edition, rasters, rows, n, samples, k) {
+            return k;
+        }
+        k += 1;
+    }
+    n
+}
+
+// How long block k lasts, as a number of its row.
+fn length_number(
+    edition: Edition,
+    rasters: Rasters,
+    rows: &[i64],
+    n: usize,
+    samples: &[i64],
+    k: usize,
+) -> i64
+    ensures { λ r. ⌜ r ≡ lengthNumber edition rasters (now (rows .entry)) n (now (samples .entry)) k ⌝ }
+{
+    let ns = blocks::block_length(edition, rasters, rows, n, samples, k);
+    signed::with_sign(false, ns.0)
+}
+
+// Writes its length into row k, if that is a block.
+fn fill_row(
+    edition: Edition,
+    rasters: Rasters,
+    rows: &mut [i64],
+    n: usize,
+    samples: &[i64],
+    k: usize,
+)
+    ensures { λ r. ⌜ now (rows .exit) ≡ withLength edition rasters (now (rows .entry)) n (now (samples .entry)) (now (rows .entry)) k ⌝ }
+{
+    if k < rows.len() / 12 {
+        if signed::same(tables::number(rows, k, 0), 1) {
+            let ns = length_number(edition, rasters, rows, n, samples, k);
+            let i = k * 12 + 9;
+            rows[i] = ns;
+        }
+    }
+}
+
+// Writes the length of each block among n rows into its row, as its tenth number.
+pub fn fill_lengths(edition: Edition, rasters: Rasters, rows: &mut [i64], n: usize, samples: &[i64])
+    ensures { λ r. ⌜ now (rows .exit) ≡ filled edition rasters (now (rows .entry)) n (now (samples .entry)) (now (rows .entry)) 0 n ⌝ }
+{
+    let mut k: usize = 0;
+    while k < n {
+        fill_row(edition, rasters, rows, n, samples, k);
+        k += 1;
+    }
+}

@@ -1,0 +1,35 @@
+-- `tables::met_number` meets its contract. Assumes nothing.
+use Rattle.signed.proofs.Machine.{rd-is}
+use mathlib.Core.Path.{_∙_}
+use Rattle.signed.proofs.Machine.{rd-at}
+use Rattle.tables.proofs.Meeting.{number-met, number-unmet}
+use borrow.Author.Needs.{needs}
+use Rattle.tables.proofs.met_number.Statement.{statement}
+use Rattle.tables.proofs.met_number.Tie as tie
+use Rattle.tables.proofs.met_number.Reads as reads
+use Rattle.tables.proofs.met_number.Lts as lts
+use Rattle.tables.proofs.met_row.Reads as met-row-reads
+use Rattle.tables.proofs.number.Reads as number-reads
+
+-- src/lib.rt:132:9
+met-row-requires : tie.Need-met-row-requires
+met-row-requires c κs = search needs
+
+-- src/lib.rt:134:9
+number-requires : tie.Need-number-requires
+number-requires c κs = search needs
+
+-- src/lib.rt:134:9
+returns : tie.Need-returns
+returns c = let m = c .before .before in
+    let a = m .before .fits in
+    rd-at _ (c .number .ok) ∙ c .number .ensures ∙ number-met _ _ (rd-is (a .class)) (rd-is (a .id)) _ (m .met-row .ensures) _ (c .before .if1 .taken)
+
+-- src/lib.rt:129:1
+returns-2 : tie.Need-returns-2
+returns-2 c = let m = c .before in
+    let a = m .before .fits in
+    number-unmet _ _ (rd-is (a .class)) (rd-is (a .id)) _ (m .met-row .ensures) (m .before .args .c) (c .if1 .left)
+
+pub met-number-spec : {M : Type 1} → statement M
+met-number-spec = tie.close (tie.spec met-row-requires number-requires returns returns-2)
