@@ -1,0 +1,6 @@
+-- The laws of what is met again in a file.
+pub mod Lines
+pub mod Naming
+pub mod Rising
+pub mod Again
+pub mod Examples

@@ -1,0 +1,88 @@
+-- The earlier of two lines, and of the rows' and the words'. Assumes nothing.
+use Prim.Native.Nat.{ℕ, _<_, _≤_}
+use mathlib.Core.List.{List}
+use mathlib.Core.Logic.{_⊎_, inl, inr}
+use mathlib.Core.Path.{_≡_, refl, sym, _∙_}
+use native.Mathlib.Omega.{arith}
+use borrow.Author.Tests.{ne-eqb, lt-ltb, le-ltb}
+use lib.IntN.{ℤ}
+use Rattle.text.proofs.Cases.{lt-or-ge, eq-or-ne}
+use Rattle.file.specs.Rows.{rowsOf, lineOf}
+use Rattle.tables.specs.Tables.{firstAgain}
+use Rattle.duplicates.specs.Words.{earlier, againLine, wordsOf, rowAgain, duplicateLine}
+
+-- ---- by the tests of the code
+module _ (a b : ℕ) where
+  pub earlier-second : a ≡ 0 → b ≡ earlier a b
+  unfolding earlier
+  earlier-second e = rw e
+
+  module _ (n : a ≡ 0 → ⊥) where
+    pub earlier-first : b ≡ 0 → a ≡ earlier a b
+    unfolding earlier
+    earlier-first e = rw (ne-eqb a 0 n, e)
+
+    module _ (m : b ≡ 0 → ⊥) where
+      pub earlier-less : b < a → b ≡ earlier a b
+      unfolding earlier
+      earlier-less h = rw (ne-eqb a 0 n, ne-eqb b 0 m, lt-ltb b a h)
+
+      pub earlier-least : a ≤ b → a ≡ earlier a b
+      unfolding earlier
+      earlier-least h = rw (ne-eqb a 0 n, ne-eqb b 0 m, le-ltb b a h)
+
+-- ---- what is known of it
+pub record EarlierIs (a b r : ℕ) : Type 0 where
+  pub one : (r ≡ a) ⊎ (r ≡ b)
+  pub first : (a ≡ 0 → ⊥) → (r ≡ 0 → ⊥) × (r ≤ a)
+  pub second : (b ≡ 0 → ⊥) → (r ≡ 0 → ⊥) × (r ≤ b)
+
+pub earlier-is : (a b : ℕ) → EarlierIs a b (earlier a b)
+earlier-is a b = go (eq-or-ne a 0) (eq-or-ne b 0) (lt-or-ge b a)
+  where
+    go : (a ≡ 0) ⊎ (a ≡ 0 → ⊥) → (b ≡ 0) ⊎ (b ≡ 0 → ⊥) → (b < a) ⊎ (a ≤ b) → EarlierIs a b (earlier a b)
+    go (inl e) f h =
+        let r = earlier-second a b e in
+        record { one = inr (sym r); first = λ n. absurd (n e); second = λ n. (λ (q : earlier a b ≡ 0). n (r ∙ q), omega arith) }
+    go (inr n) (inl e) h =
+        let r = earlier-first a b n e in
+        record { one = inl (sym r); first = λ m. (λ (q : earlier a b ≡ 0). n (r ∙ q), omega arith); second = λ m. absurd (m e) }
+    go (inr n) (inr m) (inl h) =
+        let r = earlier-less a b n m h in
+        record { one = inr (sym r); first = λ x. (λ (q : earlier a b ≡ 0). m (r ∙ q), omega arith); second = λ x. (λ (q : earlier a b ≡ 0). m (r ∙ q), omega arith) }
+    go (inr n) (inr m) (inr h) =
+        let r = earlier-least a b n m h in
+        record { one = inl (sym r); first = λ x. (λ (q : earlier a b ≡ 0). n (r ∙ q), omega arith); second = λ x. (λ (q : earlier a b ≡ 0). n (r ∙ q), omega arith) }
+
+pub earlier-none : (a : ℕ) → earlier a 0 ≡ a
+earlier-none a = go (eq-or-ne a 0)
+  where
+    go : (a ≡ 0) ⊎ (a ≡ 0 → ⊥) → earlier a 0 ≡ a
+    go (inl e) = sym (earlier-second a 0 e) ∙ sym e
+    go (inr n) = sym (earlier-first a 0 n refl)
+
+-- ---- of three lines
+pub earlier-more : (a b c : ℕ) → earlier (earlier a b) c ≡ earlier a (earlier b c)
+earlier-more a b c = go (eq-or-ne a 0) (eq-or-ne b 0) (eq-or-ne c 0)
+  where
+    some : (a ≡ 0 → ⊥) → (b ≡ 0 → ⊥) → (c ≡ 0 → ⊥) → (b < a) ⊎ (a ≤ b) → (c < b) ⊎ (b ≤ c) → earlier (earlier a b) c ≡ earlier a (earlier b c)
+    some n m k (inl h) (inl g) = rw (← earlier-less a b n m h, ← earlier-less b c m k g) (earlier-less a c n k (omega arith))
+    some n m k (inl h) (inr g) = rw (← earlier-less a b n m h, ← earlier-least b c m k g) (earlier-less a b n m h)
+    some n m k (inr h) (inl g) = rw (← earlier-least a b n m h, ← earlier-less b c m k g)
+    some n m k (inr h) (inr g) = rw (← earlier-least a b n m h, ← earlier-least b c m k g, ← earlier-least a b n m h) (sym (earlier-least a c n k (omega arith)))
+
+    go : (a ≡ 0) ⊎ (a ≡ 0 → ⊥) → (b ≡ 0) ⊎ (b ≡ 0 → ⊥) → (c ≡ 0) ⊎ (c ≡ 0 → ⊥) → earlier (earlier a b) c ≡ earlier a (earlier b c)
+    go (inl e) f g = rw (← earlier-second a b e) (earlier-second a (earlier b c) e)
+    go (inr n) (inl e) g = rw (← earlier-first a b n e, ← earlier-second b c e)
+    go (inr n) (inr m) (inl e) = rw (← earlier-first b c m e) (sym (earlier-first (earlier a b) c (earlier-is a b .first n .0) e))
+    go (inr n) (inr m) (inr k) = some n m k (lt-or-ge b a) (lt-or-ge c b)
+
+-- ---- the row's line beside the word's
+module _ (file : List ℕ) (rows : List ℤ) (n k word : ℕ) (p : k ≡ firstAgain rows n) (q : word ≡ againLine (wordsOf file)) where
+  pub duplicate-row : k < n → (line : ℕ) → line ≡ lineOf (rowsOf file) k → earlier line word ≡ duplicateLine file rows n
+  unfolding duplicateLine rowAgain
+  duplicate-row h line e = rw (← p, lt-ltb k n h, e, q)
+
+  pub duplicate-word : n ≤ k → word ≡ duplicateLine file rows n
+  unfolding duplicateLine rowAgain
+  duplicate-word h = rw (← p, le-ltb k n h) (q ∙ earlier-second 0 _ refl)

@@ -1,0 +1,110 @@
+-- `duplicates::line_naming` meets its contract. The loop seeks the word among those of the lines that are left (`NamingWalk`). Assumes nothing.
+use borrow.Author.Needs.{needs}
+use Prim.Native.Nat.{_-_}
+use mathlib.Core.Path.{refl, sym, _∙_}
+use native.Mathlib.Omega.{arith}
+use denote.Ref.{now}
+use lib.ListN.{length, drop}
+use Rattle.text.specs.Lines.{linesOf}
+use Rattle.text.proofs.Cut.{LineAt, line-at}
+use Rattle.duplicates.specs.Words.{wordsFrom, nextLine}
+use Rattle.duplicates.proofs.Naming.{NamingWalk, naming-fault, naming-hit, naming-turn, naming-end}
+use Rattle.duplicates.proofs.line_naming.Statement.{statement}
+use Rattle.duplicates.proofs.line_naming.Tie as tie
+
+abbrev Inv-loop : tie.InvT-loop
+Inv-loop file from number sort word st₀ at₀ n₀ st at n = NamingWalk file word sort (nextLine sort word (wordsFrom st₀ n₀ (linesOf (drop at₀ file)))) st at n
+
+abbrev μ-loop : tie.MeasureT-loop
+μ-loop file from number sort word st₀ at₀ n₀ st at n = length file - at
+
+-- the line that starts here
+here : (c : tie.After-next-line Inv-loop μ-loop) → LineAt (now (c .before .before .before .before .before .args .file)) (c .before .before .loop .at) (c .next-line .result)
+here c = line-at _ _ _ (c .next-line .ensures) (omega arith)
+
+loop-holds : tie.Need-loop-holds Inv-loop μ-loop
+loop-holds c = record { number = c .before .before .pre; same = refl }
+
+next-line-requires : tie.Need-next-line-requires Inv-loop μ-loop
+next-line-requires c κs = search needs
+
+sub-step : tie.Need-sub-step Inv-loop μ-loop
+sub-step c = here c .ordered
+
+part-step-start : tie.Need-part-step-start Inv-loop μ-loop
+part-step-start c = here c .ordered
+
+part-step-end : tie.Need-part-step-end Inv-loop μ-loop
+part-step-end c = here c .within
+
+step-requires : tie.Need-step-requires Inv-loop μ-loop
+step-requires c κs = search needs
+
+is-fault-requires : tie.Need-is-fault-requires Inv-loop μ-loop
+is-fault-requires c κs = search needs
+
+returns : tie.Need-returns Inv-loop μ-loop
+returns c = let s = c .before .before in
+    let l = s .before .before in
+    naming-fault _ _ _ _ _ _ _ (l .before .before .loop .inv) _ (here l) _ (s .step .ensures) (sym (c .before .is-fault .ensures) ∙ c .if1 .taken)
+
+sub-names : tie.Need-sub-names Inv-loop μ-loop
+sub-names c = here (c .before .before .before .before) .ordered
+
+part-names-start : tie.Need-part-names-start Inv-loop μ-loop
+part-names-start c = here (c .before .before .before .before) .ordered
+
+part-names-end : tie.Need-part-names-end Inv-loop μ-loop
+part-names-end c = here (c .before .before .before .before) .within
+
+names-requires : tie.Need-names-requires Inv-loop μ-loop
+names-requires c κs = search needs
+
+returns-2 : tie.Need-returns-2 Inv-loop μ-loop
+returns-2 c = let d = c .before in
+    let e = d .before .before in
+    let s = e .before .before in
+    let l = s .before .before in
+    naming-hit _ _ _ _ _ _ _ (l .before .before .loop .inv) _ (here l) _ (s .step .ensures) (sym (e .before .is-fault .ensures) ∙ e .if1 .left) (sym (d .names .ensures) ∙ c .if2 .taken)
+
+add-n : tie.Need-add-n Inv-loop μ-loop
+add-n c = let l = c .before .before .before .before .before .before .before in
+    let w = l .before .before .loop .inv in
+    omega (arith, w .number, here l .further, here l .inside, l .before .before .before .before .before .good .0 .0)
+
+loop-less : tie.Need-loop-less Inv-loop μ-loop
+loop-less c = let l = c .before .before .before .before .before .before .before .before in omega (arith, here l .further, here l .inside)
+
+loop-again : tie.Need-loop-again Inv-loop μ-loop
+loop-again c = let d = c .before .before in
+    let e = d .before .before in
+    let s = e .before .before in
+    let l = s .before .before in
+    naming-turn _ _ _ _ _ _ _ (l .before .before .loop .inv) _ (here l) _ (s .step .ensures) (sym (e .before .is-fault .ensures) ∙ e .if1 .left) (sym (d .names .ensures) ∙ c .before .if2 .left)
+
+returns-3 : tie.Need-returns-3 Inv-loop μ-loop
+returns-3 c = naming-end _ _ _ _ _ _ _ (c .before .loop .inv) (c .loop-test .left)
+
+pub line-naming-spec : {M : Type 1} → statement M
+line-naming-spec =
+    tie.close
+    (tie.spec
+    Inv-loop
+    μ-loop
+    loop-holds
+    next-line-requires
+    sub-step
+    part-step-start
+    part-step-end
+    step-requires
+    is-fault-requires
+    returns
+    sub-names
+    part-names-start
+    part-names-end
+    names-requires
+    returns-2
+    add-n
+    loop-less
+    loop-again
+    returns-3)

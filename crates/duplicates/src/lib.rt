@@ -1,0 +1,197 @@
+// What is met again in a file: a key among its definitions, a name among its extensions, an ID or type among its rows.
+ghost use mathlib.Core.Path.{_≡_};
+ghost use Prim.Native.Nat.{_+_, _≤_};
+ghost use lib.ListN.{drop};
+ghost use Rattle.text.specs.Lines.{linesOf};
+ghost use Rattle.file.specs.Whole.{isFault};
+ghost use Rattle.duplicates.specs.Words.{rowNames, onceOf, wordOf, sortNumber, wordsFrom, wordsOf, nextLine, earlier, againLine, duplicateLine};
+ghost use Rattle.duplicates.specs.Inside.{namesWord, nextOf};
+use grammar::Found;
+use grammar::State;
+use grammar::Stepped;
+
+// The two sorts of words that may stand once in a file: keys of definitions, and names of extensions.
+pub enum Sort {
+    Key,
+    Name,
+}
+
+// What a line names that may stand once in a file.
+pub enum Once {
+    Nothing,
+    Word(Sort),
+}
+
+// Is this a fault?
+fn is_fault(found: Found) -> bool
+    ensures { λ r. ⌜ r ≡ isFault found ⌝ }
+{
+    match found {
+        Found::Nothing => false,
+        Found::Row => false,
+        Found::Definition => false,
+        Found::Fault(_) => true,
+    }
+}
+
+// What a row of this kind names.
+fn row_names(kind: i64) -> Once
+    ensures { λ r. ⌜ r ≡ rowNames kind ⌝ }
+{
+    if signed::same(kind, 8) {
+        return Once::Word(Sort::Name);
+    }
+    Once::Nothing
+}
+
+// What a line names that gave this.
+fn once_of(did: Stepped) -> Once
+    ensures { λ r. ⌜ r ≡ onceOf did ⌝ }
+{
+    let found = did.found;
+    let kind = did.cells[0];
+    match found {
+        Found::Nothing => Once::Nothing,
+        Found::Row => row_names(kind),
+        Found::Definition => Once::Word(Sort::Key),
+        Found::Fault(_) => Once::Nothing,
+    }
+}
+
+// The word of this sort in a line, as a part of it.
+fn word_of(line: &[u8], sort: Sort) -> &[u8]
+    ensures { λ r. ⌜ now r ≡ wordOf (now (line .entry)) sort ⌝ }
+{
+    match sort {
+        Sort::Key => text::field(line, 0),
+        Sort::Name => text::field(line, 1),
+    }
+}
+
+// The number of a sort.
+fn sort_number(sort: Sort) -> u8
+    ensures { λ r. ⌜ r ≡ sortNumber sort ⌝ }
+{
+    match sort {
+        Sort::Key => 1,
+        Sort::Name => 2,
+    }
+}
+
+// Does a line, which gave this, name the word?
+fn names(line: &[u8], did: Stepped, sort: Sort, word: &[u8]) -> bool
+    ensures { λ r. ⌜ r ≡ namesWord (now (line .entry)) (onceOf did) sort (now (word .entry)) ⌝ }
+{
+    match once_of(did) {
+        Once::Nothing => false,
+        Once::Word(own) => {
+            if sort_number(own) == sort_number(sort) {
+                return text::same(word_of(line, own), word);
+            }
+            false
+        }
+    }
+}
+
+// The first line from a place on that names the word; 0 if none does.
+fn line_naming(
+    file: &[u8],
+    from: usize,
+    state: State,
+    number: usize,
+    sort: Sort,
+    word: &[u8],
+) -> usize
+    requires { ⌜ number ≤ from + 1 ⌝ }
+    ensures { λ r. ⌜ r ≡ nextLine sort (now (word .entry)) (wordsFrom state number (linesOf (drop from (now (file .entry))))) ⌝ }
+{
+    let mut st = state;
+    let mut at = from;
+    let mut n = number;
+    while at < file.len() {
+        let line = text::next_line(file, at);
+        let stop = line.stop;
+        let did = grammar::step(st, n, &file[at..stop]);
+        let found = did.found;
+        if is_fault(found) {
+            return 0;
+        }
+        if names(&file[at..stop], did, sort, word) {
+            return n;
+        }
+        n += 1;
+        at = line.next;
+        let next = did.next;
+        st = next;
+    }
+    0
+}
+
+// The first line behind a line, which gave this, that names its word again; 0 if none does, or it names nothing.
+fn met_again(file: &[u8], line: &[u8], did: Stepped, from: usize, number: usize) -> usize
+    requires { ⌜ number ≤ from + 1 ⌝ }
+    ensures { λ r. ⌜ r ≡ nextOf (now (line .entry)) (onceOf did) (wordsFrom (did .next) number (linesOf (drop from (now (file .entry))))) ⌝ }
+{
+    match once_of(did) {
+        Once::Nothing => 0,
+        Once::Word(sort) => {
+            let next = did.next;
+            line_naming(file, from, next, number, sort, word_of(line, sort))
+        }
+    }
+}
+
+// The earlier of two lines, where 0 is none.
+fn earlier(a: usize, b: usize) -> usize
+    ensures { λ r. ⌜ r ≡ earlier a b ⌝ }
+{
+    if a == 0 {
+        return b;
+    }
+    if b == 0 {
+        return a;
+    }
+    if b < a {
+        return b;
+    }
+    a
+}
+
+// The first line at which a key or a name is met again; 0 if there is none.
+pub fn word_again(file: &[u8]) -> usize
+    ensures { λ r. ⌜ r ≡ againLine (wordsOf (now (file .entry))) ⌝ }
+{
+    let mut st = grammar::start();
+    let mut at: usize = 0;
+    let mut n: usize = 1;
+    let mut first: usize = 0;
+    while at < file.len() {
+        let line = text::next_line(file, at);
+        let stop = line.stop;
+        let behind = line.next;
+        let did = grammar::step(st, n, &file[at..stop]);
+        let found = did.found;
+        if is_fault(found) {
+            return first;
+        }
+        n += 1;
+        let again = met_again(file, &file[at..stop], did, behind, n);
+        first = earlier(first, again);
+        at = behind;
+        let next = did.next;
+        st = next;
+    }
+    first
+}
+
+// The first line at which a key, a name, or the ID or type of one of n rows is met again in its class; 0 if there is none.
+pub fn first_duplicate(file: &[u8], rows: &[i64], n: usize) -> usize
+    ensures { λ r. ⌜ r ≡ duplicateLine (now (file .entry)) (now (rows .entry)) n ⌝ }
+{
+    let k = tables::first_again(rows, n);
+    let word = word_again(file);
+    if k < n {
+        return earlier(file::row_line(file, k), word);
+    }
+    word
+}

@@ -1,0 +1,79 @@
+// The shapes of a whole file: the stored lines of each expanded into its part of the lent samples.
+ghost use mathlib.Core.Path.{_≡_};
+ghost use Prim.Native.Nat.{min};
+ghost use lib.IntN.{natAbs};
+ghost use Rattle.tables.specs.Tables.{numberAt};
+ghost use Rattle.sampling.specs.Sampling.{failed, Sampled};
+ghost use Rattle.sampling.specs.Inside.{ShapeSampled, RowSampled};
+use shape::Edition;
+use shape::Expanded;
+
+// The smaller of two.
+fn least(a: usize, b: usize) -> usize
+    ensures { λ r. ⌜ r ≡ min a b ⌝ }
+{
+    if a < b {
+        return a;
+    }
+    b
+}
+
+// The size of number c of row k.
+fn size_at(rows: &[i64], k: usize, c: usize) -> usize
+    ensures { λ r. ⌜ r ≡ natAbs (numberAt (now (rows .entry)) k c) ⌝ }
+{
+    signed::size(tables::number(rows, k, c)) as usize
+}
+
+// Has expanding failed?
+fn has_failed(expanded: Expanded) -> bool
+    ensures { λ r. ⌜ r ≡ failed expanded ⌝ }
+{
+    match expanded {
+        Expanded::Samples(_) => false,
+        Expanded::Field => true,
+        Expanded::Shape => true,
+        Expanded::Room => true,
+    }
+}
+
+// Expands the shape of row k into its part of the lent samples. Has it failed?
+fn expand_shape(file: &[u8], edition: Edition, rows: &[i64], k: usize, samples: &mut [i64]) -> bool
+    ensures { λ r. ⌜ ShapeSampled edition (now (file .entry)) (now (rows .entry)) k (now (samples .entry)) r (now (samples .exit)) ⌝ }
+{
+    let stored = file::stored_lines(file, tables::number(rows, k, 1));
+    let num = size_at(rows, k, 2);
+    let from = least(size_at(rows, k, 3), samples.len());
+    let to = from + least(num, samples.len() - from);
+    has_failed(shape::expand(stored, num, edition, &mut samples[from..to]))
+}
+
+// Expands row k, if it is a shape. Has it failed?
+fn expand_row(file: &[u8], edition: Edition, rows: &[i64], k: usize, samples: &mut [i64]) -> bool
+    ensures { λ r. ⌜ RowSampled edition (now (file .entry)) (now (rows .entry)) k (now (samples .entry)) r (now (samples .exit)) ⌝ }
+{
+    if signed::same(tables::number(rows, k, 0), 11) {
+        return expand_shape(file, edition, rows, k, samples);
+    }
+    false
+}
+
+// Expands the shapes of n rows, each at its place among the lent samples, up to the first that fails; answers its row, n if none fails.
+pub fn expand_shapes(
+    file: &[u8],
+    edition: Edition,
+    rows: &[i64],
+    n: usize,
+    samples: &mut [i64],
+) -> usize
+    ensures { λ r. ⌜ Sampled edition (now (file .entry)) (now (rows .entry)) n (now (samples .entry)) r (now (samples .exit)) ⌝ }
+{
+    let mut k: usize = 0;
+    while k < n {
+        if expand_row(file, edition, rows, k, samples) {
+            return k;
+        }
+        k += 1;
+    }
+    n
+}
