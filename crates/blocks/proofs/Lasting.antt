@@ -3,7 +3,7 @@ use Prim.Native.Nat.{ℕ, suc, _+_, _-_, _*_, _≤_, _<_, max}
 use mathlib.Core.Bool.{Bool, true, false}
 use mathlib.Core.List.{List}
 use mathlib.Core.Logic.{⊎-elim}
-use mathlib.Core.Path.{_≡_, refl, sym, ap, _∙_}
+use mathlib.Core.Path.{_≡_, sym, ap, _∙_}
 use native.Mathlib.Numerals.{add-one}
 use native.Mathlib.Omega.{arith}
 use borrow.Author.Tests.{lt-ltb, le-ltb}
@@ -19,7 +19,7 @@ use Rattle.shape.specs.declared.Edition.the-variants.{V13, V14}
 use Rattle.tables.specs.Tables.{numberAt, metRow}
 use Rattle.chains.specs.Chains.{nextEntry}
 use Rattle.references.specs.References.{extensionRef, refAt}
-use Rattle.lengths.specs.Lengths.{countAt, lengthAt}
+use Rattle.lengths.specs.Lengths.{lengthAt}
 use Rattle.blocks.specs.Blocks.{metLength, entryLength, chainLength, referenceLength, longestOf, numberLength, longestEvent, blockLength, isLong, outlastsAt}
 
 max-shift : (a b c : ℕ) → max (max a b) c ≡ max a (max b c)

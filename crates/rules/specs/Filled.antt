@@ -1,6 +1,6 @@
 -- "1 block (plus its ns)": the length of each block among n rows, as the tenth number of its row.
 use Prim.Native.Nat.{ℕ, zero, suc, _+_, _*_, _/_, min}
-use mathlib.Core.Bool.{Bool, cond, _&&_}
+use mathlib.Core.Bool.{cond, _&&_}
 use mathlib.Core.List.{List}
 use lib.Dec.{ltb}
 use lib.IntN.{ℤ, pos}

@@ -1,6 +1,5 @@
 -- `blocks::chain_length`, which calls itself, meets its contract. The measure is the number of entries left. Assumes nothing.
 use native.Mathlib.Omega.{arith}
-use mathlib.Core.Path.{_∙_}
 use Rattle.blocks.proofs.Lasting.{chain-out, chain-past, chain-on}
 use Prim.Native.Nat.{ℕ, _<_}
 use borrow.Fn.Kinds.{In}

@@ -5,12 +5,6 @@ use Rattle.blocks.proofs.Lasting.{block-13, block-14}
 use borrow.Author.Needs.{needs}
 use Rattle.blocks.proofs.block_length.Statement.{statement}
 use Rattle.blocks.proofs.block_length.Tie as tie
-use Rattle.blocks.proofs.block_length.Reads as reads
-use Rattle.blocks.proofs.block_length.Lts as lts
-use Rattle.blocks.proofs.longest_event.Reads as longest-event-reads
-use Rattle.signed.proofs.size.Reads as size-reads
-use Rattle.tables.proofs.number.Reads as number-reads
-use Rattle.unit.proofs.RasterCount.nanos.Reads as nanos-reads
 
 -- src/lib.rt:117:39
 enum-told : tie.Need-enum-told

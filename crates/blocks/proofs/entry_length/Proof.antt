@@ -5,11 +5,6 @@ use Rattle.blocks.proofs.Lasting.{entry-is}
 use borrow.Author.Needs.{needs}
 use Rattle.blocks.proofs.entry_length.Statement.{statement}
 use Rattle.blocks.proofs.entry_length.Tie as tie
-use Rattle.blocks.proofs.entry_length.Reads as reads
-use Rattle.blocks.proofs.entry_length.Lts as lts
-use Rattle.blocks.proofs.met_length.Reads as met-length-reads
-use Rattle.references.proofs.extension_ref.Reads as extension-ref-reads
-use Rattle.tables.proofs.number.Reads as number-reads
 
 -- src/lib.rt:125:52
 number-requires : tie.Need-number-requires

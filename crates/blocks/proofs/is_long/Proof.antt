@@ -6,12 +6,6 @@ use Rattle.blocks.proofs.Lasting.{long-block, long-other}
 use borrow.Author.Needs.{needs}
 use Rattle.blocks.proofs.is_long.Statement.{statement}
 use Rattle.blocks.proofs.is_long.Tie as tie
-use Rattle.blocks.proofs.is_long.Reads as reads
-use Rattle.blocks.proofs.is_long.Lts as lts
-use Rattle.blocks.proofs.block_length.Reads as block-length-reads
-use Rattle.signed.proofs.same.Reads as same-reads
-use Rattle.tables.proofs.number.Reads as number-reads
-use Rattle.unit.proofs.Nanos.exceeds.Reads as exceeds-reads
 
 -- src/lib.rt:136:21
 number-requires : tie.Need-number-requires

@@ -1,18 +1,11 @@
 -- `blocks::longest_event` meets its contract. The loop's invariant: the longest of all is the longest so far or of those that are left. Assumes nothing.
 use borrow.Author.Needs.{needs}
 use Prim.Native.Nat.{_-_}
-use mathlib.Core.Path.{_∙_}
 use native.Mathlib.Omega.{arith}
 use Rattle.signed.proofs.Machine.{rd-at}
 use Rattle.blocks.proofs.Lasting.{Longest, longest-start, longest-turn, longest-end}
 use Rattle.blocks.proofs.longest_event.Statement.{statement}
 use Rattle.blocks.proofs.longest_event.Tie as tie
-use Rattle.blocks.proofs.longest_event.Reads as reads
-use Rattle.blocks.proofs.longest_event.Lts as lts
-use Rattle.blocks.proofs.reference_length.Reads as reference-length-reads
-use Rattle.references.proofs.ref_at.Reads as ref-at-reads
-use Rattle.tables.proofs.number.Reads as number-reads
-use Rattle.unit.proofs.Nanos.longer.Reads as longer-reads
 
 abbrev Inv-loop : tie.InvT-loop
 Inv-loop edition rasters rows n samples k longest₀ c₀ longest c = Longest rasters rows n samples edition k (longest .0) c

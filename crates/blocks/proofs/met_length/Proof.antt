@@ -5,10 +5,6 @@ use Rattle.blocks.proofs.Lasting.{met-event, met-nothing}
 use borrow.Author.Needs.{needs}
 use Rattle.blocks.proofs.met_length.Statement.{statement}
 use Rattle.blocks.proofs.met_length.Tie as tie
-use Rattle.blocks.proofs.met_length.Reads as reads
-use Rattle.blocks.proofs.met_length.Lts as lts
-use Rattle.lengths.proofs.row_length.Reads as row-length-reads
-use Rattle.tables.proofs.met_row.Reads as met-row-reads
 
 -- src/lib.rt:114:9
 met-row-requires : tie.Need-met-row-requires

@@ -6,13 +6,6 @@ use Rattle.blocks.proofs.Lasting.{outlasts-block, outlasts-other}
 use borrow.Author.Needs.{needs}
 use Rattle.blocks.proofs.outlasts.Statement.{statement}
 use Rattle.blocks.proofs.outlasts.Tie as tie
-use Rattle.blocks.proofs.outlasts.Reads as reads
-use Rattle.blocks.proofs.outlasts.Lts as lts
-use Rattle.blocks.proofs.block_length.Reads as block-length-reads
-use Rattle.blocks.proofs.longest_event.Reads as longest-event-reads
-use Rattle.signed.proofs.same.Reads as same-reads
-use Rattle.tables.proofs.number.Reads as number-reads
-use Rattle.unit.proofs.Nanos.exceeds.Reads as exceeds-reads
 
 -- src/lib.rt:147:21
 number-requires : tie.Need-number-requires

@@ -5,12 +5,6 @@ use Rattle.blocks.proofs.Lasting.{reference-chain, reference-event}
 use borrow.Author.Needs.{needs}
 use Rattle.blocks.proofs.reference_length.Statement.{statement}
 use Rattle.blocks.proofs.reference_length.Tie as tie
-use Rattle.blocks.proofs.reference_length.Reads as reads
-use Rattle.blocks.proofs.reference_length.Lts as lts
-use Rattle.blocks.proofs.chain_length.Reads as chain-length-reads
-use Rattle.blocks.proofs.met_length.Reads as met-length-reads
-use Rattle.signed.proofs.same.Reads as same-reads
-use Rattle.tables.proofs.met_row.Reads as met-row-reads
 
 -- src/lib.rt:76:8
 same-requires : tie.Need-same-requires

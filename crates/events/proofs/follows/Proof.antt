@@ -5,10 +5,6 @@ use Rattle.events.proofs.Fitting.{follows-later, follows-not}
 use borrow.Author.Needs.{needs}
 use Rattle.events.proofs.follows.Statement.{statement}
 use Rattle.events.proofs.follows.Tie as tie
-use Rattle.events.proofs.follows.Reads as reads
-use Rattle.events.proofs.follows.Lts as lts
-use Rattle.signed.proofs.less.Reads as less-reads
-use Rattle.signed.proofs.size.Reads as size-reads
 
 -- src/lib.rt:30:8
 less-requires : tie.Need-less-requires

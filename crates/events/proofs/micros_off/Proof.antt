@@ -1,17 +1,10 @@
 -- `events::micros_off` meets its contract. Assumes nothing.
-use mathlib.Core.Path.{ap, _∙_}
-use lib.IntN.{natAbs}
+use mathlib.Core.Path.{_∙_}
 use Rattle.signed.proofs.Machine.{rd-at}
 use Rattle.events.proofs.Aligning.{micros-are}
 use borrow.Author.Needs.{needs}
 use Rattle.events.proofs.micros_off.Statement.{statement}
 use Rattle.events.proofs.micros_off.Tie as tie
-use Rattle.events.proofs.micros_off.Reads as reads
-use Rattle.events.proofs.micros_off.Lts as lts
-use Rattle.events.proofs.off.Reads as off-reads
-use Rattle.signed.proofs.size.Reads as size-reads
-use Rattle.tables.proofs.number.Reads as number-reads
-use Rattle.unit.proofs.Micros.nanos.Reads as nanos-reads
 
 -- src/lib.rt:118:36
 number-requires : tie.Need-number-requires

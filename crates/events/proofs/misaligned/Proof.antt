@@ -6,14 +6,6 @@ use Rattle.events.proofs.Aligning.{align-rf, align-gradient, align-trap
 use borrow.Author.Needs.{needs}
 use Rattle.events.proofs.misaligned.Statement.{statement}
 use Rattle.events.proofs.misaligned.Tie as tie
-use Rattle.events.proofs.misaligned.Reads as reads
-use Rattle.events.proofs.misaligned.Lts as lts
-use Rattle.events.proofs.micros_off.Reads as micros-off-reads
-use Rattle.events.proofs.off.Reads as off-reads
-use Rattle.events.proofs.trap_off.Reads as trap-off-reads
-use Rattle.signed.proofs.same.Reads as same-reads
-use Rattle.signed.proofs.size.Reads as size-reads
-use Rattle.tables.proofs.number.Reads as number-reads
 
 -- src/lib.rt:142:9
 number-requires : tie.Need-number-requires

@@ -6,12 +6,6 @@ use Rattle.events.proofs.Fitting.{misfit-rf, misfit-gradient, misfit-ot
 use borrow.Author.Needs.{needs}
 use Rattle.events.proofs.misfits.Statement.{statement}
 use Rattle.events.proofs.misfits.Tie as tie
-use Rattle.events.proofs.misfits.Reads as reads
-use Rattle.events.proofs.misfits.Lts as lts
-use Rattle.events.proofs.rf_fits.Reads as rf-fits-reads
-use Rattle.events.proofs.shaped_fits.Reads as shaped-fits-reads
-use Rattle.signed.proofs.same.Reads as same-reads
-use Rattle.tables.proofs.number.Reads as number-reads
 
 -- src/lib.rt:94:9
 number-requires : tie.Need-number-requires

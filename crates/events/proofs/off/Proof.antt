@@ -3,9 +3,6 @@ use Rattle.events.proofs.Aligning.{off-no, off-yes}
 use borrow.Author.Needs.{needs}
 use Rattle.events.proofs.off.Statement.{statement}
 use Rattle.events.proofs.off.Tie as tie
-use Rattle.events.proofs.off.Reads as reads
-use Rattle.events.proofs.off.Lts as lts
-use Rattle.unit.proofs.Nanos.steps.Reads as steps-reads
 
 -- src/lib.rt:108:11
 steps-requires : tie.Need-steps-requires

@@ -5,11 +5,6 @@ use Rattle.events.proofs.Fitting.{rf-counts, rf-other}
 use borrow.Author.Needs.{needs}
 use Rattle.events.proofs.rf_fits.Statement.{statement}
 use Rattle.events.proofs.rf_fits.Tie as tie
-use Rattle.events.proofs.rf_fits.Reads as reads
-use Rattle.events.proofs.rf_fits.Lts as lts
-use Rattle.events.proofs.shaped_fits.Reads as shaped-fits-reads
-use Rattle.tables.proofs.number.Reads as number-reads
-use Rattle.tables.proofs.samples_of.Reads as samples-of-reads
 
 -- src/lib.rt:82:58
 number-requires : tie.Need-number-requires

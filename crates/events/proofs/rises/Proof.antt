@@ -13,9 +13,6 @@ use Rattle.events.specs.Use.{risesFrom}
 use Rattle.events.proofs.Fitting.{rise-turn, rise-not, rise-end}
 use Rattle.events.proofs.rises.Statement.{statement}
 use Rattle.events.proofs.rises.Tie as tie
-use Rattle.events.proofs.rises.Reads as reads
-use Rattle.events.proofs.rises.Lts as lts
-use Rattle.events.proofs.follows.Reads as follows-reads
 
 abbrev Inv-loop : tie.InvT-loop
 Inv-loop times last₀ i₀ last i = risesFrom (toZ w64 last) (drop i times) ≡ risesFrom (negsuc 0) times

@@ -5,12 +5,6 @@ use Rattle.events.proofs.Fitting.{shaped-fit, shaped-not}
 use borrow.Author.Needs.{needs}
 use Rattle.events.proofs.shaped_fits.Statement.{statement}
 use Rattle.events.proofs.shaped_fits.Tie as tie
-use Rattle.events.proofs.shaped_fits.Reads as reads
-use Rattle.events.proofs.shaped_fits.Lts as lts
-use Rattle.events.proofs.time_fits.Reads as time-fits-reads
-use Rattle.events.proofs.within_one.Reads as within-one-reads
-use Rattle.tables.proofs.number.Reads as number-reads
-use Rattle.tables.proofs.samples_of.Reads as samples-of-reads
 
 -- src/lib.rt:71:58
 number-requires : tie.Need-number-requires

@@ -5,11 +5,6 @@ use Rattle.events.proofs.Fitting.{time-none, time-count, time-other}
 use borrow.Author.Needs.{needs}
 use Rattle.events.proofs.time_fits.Statement.{statement}
 use Rattle.events.proofs.time_fits.Tie as tie
-use Rattle.events.proofs.time_fits.Reads as reads
-use Rattle.events.proofs.time_fits.Lts as lts
-use Rattle.events.proofs.rises.Reads as rises-reads
-use Rattle.signed.proofs.same.Reads as same-reads
-use Rattle.tables.proofs.samples_of.Reads as samples-of-reads
 
 -- src/lib.rt:57:8
 same-requires : tie.Need-same-requires

@@ -1,13 +1,9 @@
 -- `events::trap_off` meets its contract. Assumes nothing.
 use Rattle.events.proofs.Aligning.{trap-first, trap-second, trap-third, trap-last}
-use mathlib.Core.Path.{_∙_}
 use mathlib.Core.Bool.{true}
 use borrow.Author.Needs.{needs}
 use Rattle.events.proofs.trap_off.Statement.{statement}
 use Rattle.events.proofs.trap_off.Tie as tie
-use Rattle.events.proofs.trap_off.Reads as reads
-use Rattle.events.proofs.trap_off.Lts as lts
-use Rattle.events.proofs.micros_off.Reads as micros-off-reads
 
 -- src/lib.rt:126:8
 micros-off-requires : tie.Need-micros-off-requires

@@ -1,18 +1,14 @@
 -- `events::within_one` meets its contract. The loop's invariant: all samples lie in -1 to 1 if those that are left do. Assumes nothing.
 use borrow.Author.Needs.{needs}
 use Prim.Native.Nat.{_-_}
-use mathlib.Core.Path.{_≡_, refl, ap, sym, _∙_}
+use mathlib.Core.Path.{_≡_, refl, _∙_}
 use native.Mathlib.Omega.{arith}
-use lib.IntN.{natAbs}
 use lib.ListN.{length, drop}
 use Rattle.signed.proofs.Machine.{rd-at}
 use Rattle.events.specs.Use.{allUnit}
 use Rattle.events.proofs.Fitting.{unit-turn, unit-past, unit-end}
 use Rattle.events.proofs.within_one.Statement.{statement}
 use Rattle.events.proofs.within_one.Tie as tie
-use Rattle.events.proofs.within_one.Reads as reads
-use Rattle.events.proofs.within_one.Lts as lts
-use Rattle.signed.proofs.size.Reads as size-reads
 
 abbrev Inv-loop : tie.InvT-loop
 Inv-loop samples i₀ i = allUnit (drop i samples) ≡ allUnit samples

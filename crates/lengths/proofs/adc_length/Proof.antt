@@ -5,13 +5,6 @@ use Rattle.lengths.proofs.Measured.{adc-is}
 use borrow.Author.Needs.{needs}
 use Rattle.lengths.proofs.adc_length.Statement.{statement}
 use Rattle.lengths.proofs.adc_length.Tie as tie
-use Rattle.lengths.proofs.adc_length.Reads as reads
-use Rattle.lengths.proofs.adc_length.Lts as lts
-use Rattle.lengths.proofs.micros.Reads as micros-reads
-use Rattle.signed.proofs.size.Reads as size-reads
-use Rattle.tables.proofs.number.Reads as number-reads
-use Rattle.unit.proofs.Nanos.plus.Reads as plus-reads
-use Rattle.unit.proofs.RasterCount.nanos.Reads as nanos-reads
 
 -- src/lib.rt:72:42
 number-requires : tie.Need-number-requires

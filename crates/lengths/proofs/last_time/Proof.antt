@@ -4,9 +4,6 @@ use Rattle.lengths.proofs.Measured.{last-none, last-is}
 use borrow.Author.Needs.{needs}
 use Rattle.lengths.proofs.last_time.Statement.{statement}
 use Rattle.lengths.proofs.last_time.Tie as tie
-use Rattle.lengths.proofs.last_time.Reads as reads
-use Rattle.lengths.proofs.last_time.Lts as lts
-use Rattle.signed.proofs.size.Reads as size-reads
 
 -- src/lib.rt:24:9
 returns : tie.Need-returns

@@ -5,11 +5,6 @@ use Rattle.lengths.proofs.Measured.{micros-is}
 use borrow.Author.Needs.{needs}
 use Rattle.lengths.proofs.micros.Statement.{statement}
 use Rattle.lengths.proofs.micros.Tie as tie
-use Rattle.lengths.proofs.micros.Reads as reads
-use Rattle.lengths.proofs.micros.Lts as lts
-use Rattle.signed.proofs.size.Reads as size-reads
-use Rattle.tables.proofs.number.Reads as number-reads
-use Rattle.unit.proofs.Micros.nanos.Reads as nanos-reads
 
 -- src/lib.rt:15:36
 number-requires : tie.Need-number-requires

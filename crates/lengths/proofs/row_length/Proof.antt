@@ -1,20 +1,11 @@
 -- `lengths::row_length` meets its contract. Assumes nothing.
-use mathlib.Core.Path.{_≡_, refl, _∙_}
+use mathlib.Core.Path.{refl, _∙_}
 use Rattle.signed.proofs.Machine.{rd-at}
 use Rattle.tables.proofs.Numbers.{compared}
 use Rattle.lengths.proofs.Measured.{length-rf, length-gradient, length-trap, length-adc, length-delay, length-trigger, length-none}
 use borrow.Author.Needs.{needs}
 use Rattle.lengths.proofs.row_length.Statement.{statement}
 use Rattle.lengths.proofs.row_length.Tie as tie
-use Rattle.lengths.proofs.row_length.Reads as reads
-use Rattle.lengths.proofs.row_length.Lts as lts
-use Rattle.lengths.proofs.adc_length.Reads as adc-length-reads
-use Rattle.lengths.proofs.micros.Reads as micros-reads
-use Rattle.lengths.proofs.shaped_length.Reads as shaped-length-reads
-use Rattle.lengths.proofs.trap_length.Reads as trap-length-reads
-use Rattle.signed.proofs.same.Reads as same-reads
-use Rattle.tables.proofs.number.Reads as number-reads
-use Rattle.unit.proofs.Nanos.plus.Reads as plus-reads
 
 -- src/lib.rt:81:9
 number-requires : tie.Need-number-requires

@@ -3,12 +3,6 @@ use Rattle.lengths.proofs.Measured.{shaped-is}
 use borrow.Author.Needs.{needs}
 use Rattle.lengths.proofs.shaped_length.Statement.{statement}
 use Rattle.lengths.proofs.shaped_length.Tie as tie
-use Rattle.lengths.proofs.shaped_length.Reads as reads
-use Rattle.lengths.proofs.shaped_length.Lts as lts
-use Rattle.lengths.proofs.micros.Reads as micros-reads
-use Rattle.lengths.proofs.steps.Reads as steps-reads
-use Rattle.unit.proofs.Nanos.plus.Reads as plus-reads
-use Rattle.unit.proofs.RasterCount.nanos.Reads as nanos-reads
 
 -- src/lib.rt:55:18
 steps-requires : tie.Need-steps-requires

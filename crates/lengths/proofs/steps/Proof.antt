@@ -6,12 +6,6 @@ use Rattle.lengths.proofs.Measured.{steps-samples, steps-time}
 use borrow.Author.Needs.{needs}
 use Rattle.lengths.proofs.steps.Statement.{statement}
 use Rattle.lengths.proofs.steps.Tie as tie
-use Rattle.lengths.proofs.steps.Reads as reads
-use Rattle.lengths.proofs.steps.Lts as lts
-use Rattle.lengths.proofs.last_time.Reads as last-time-reads
-use Rattle.signed.proofs.same.Reads as same-reads
-use Rattle.tables.proofs.number.Reads as number-reads
-use Rattle.tables.proofs.samples_of.Reads as samples-of-reads
 
 -- src/lib.rt:35:9
 number-requires : tie.Need-number-requires

@@ -3,10 +3,6 @@ use Rattle.lengths.proofs.Measured.{trap-is}
 use borrow.Author.Needs.{needs}
 use Rattle.lengths.proofs.trap_length.Statement.{statement}
 use Rattle.lengths.proofs.trap_length.Tie as tie
-use Rattle.lengths.proofs.trap_length.Reads as reads
-use Rattle.lengths.proofs.trap_length.Lts as lts
-use Rattle.lengths.proofs.micros.Reads as micros-reads
-use Rattle.unit.proofs.Nanos.plus.Reads as plus-reads
 
 -- src/lib.rt:63:17
 micros-requires : tie.Need-micros-requires

@@ -3,8 +3,6 @@ use Rattle.rasters.proofs.Reading.{lacks-gradient, lacks-rf, lacks-none
 use borrow.Author.Needs.{needs}
 use Rattle.rasters.proofs.is_lacking.Statement.{statement}
 use Rattle.rasters.proofs.is_lacking.Tie as tie
-use Rattle.rasters.proofs.is_lacking.Reads as reads
-use Rattle.rasters.proofs.is_lacking.Lts as lts
 
 -- src/lib.rt:54:9
 returns : tie.Need-returns

@@ -1,13 +1,8 @@
 -- `rasters::raster` meets its contract. Assumes nothing.
-use mathlib.Core.Path.{_∙_}
 use Rattle.rasters.proofs.Reading.{raster-good, raster-bad, raster-none}
 use borrow.Author.Needs.{needs}
 use Rattle.rasters.proofs.raster.Statement.{statement}
 use Rattle.rasters.proofs.raster.Tie as tie
-use Rattle.rasters.proofs.raster.Reads as reads
-use Rattle.rasters.proofs.raster.Lts as lts
-use Rattle.numeral.proofs.read_decimal.Reads as read-decimal-reads
-use Rattle.numeral.proofs.whole_worth.Reads as whole-worth-reads
 
 -- src/lib.rt:14:11
 read-decimal-requires : tie.Need-read-decimal-requires

@@ -5,10 +5,6 @@ use Rattle.rasters.proofs.Reading.{four-are}
 use borrow.Author.Needs.{needs}
 use Rattle.rasters.proofs.rasters.Statement.{statement}
 use Rattle.rasters.proofs.rasters.Tie as tie
-use Rattle.rasters.proofs.rasters.Reads as reads
-use Rattle.rasters.proofs.rasters.Lts as lts
-use Rattle.rasters.proofs.raster.Reads as raster-reads
-use Rattle.rasters.proofs.text_of.Reads as text-of-reads
 
 -- src/lib.rt:37:56
 slice-aggregate-text-of : tie.Need-slice-aggregate-text-of

@@ -4,10 +4,6 @@ use Rattle.rasters.specs.Rasters.{textOf}
 use borrow.Author.Needs.{needs}
 use Rattle.rasters.proofs.text_of.Statement.{statement}
 use Rattle.rasters.proofs.text_of.Tie as tie
-use Rattle.rasters.proofs.text_of.Reads as reads
-use Rattle.rasters.proofs.text_of.Lts as lts
-use Rattle.file.proofs.definition.Reads as definition-reads
-use Rattle.file.proofs.file_definition.Reads as file-definition-reads
 
 -- src/lib.rt:28:25
 enum-told : tie.Need-enum-told

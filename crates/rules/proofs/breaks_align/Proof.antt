@@ -4,9 +4,6 @@ use Rattle.rules.specs.Rules.{alignBroken}
 use borrow.Author.Needs.{needs}
 use Rattle.rules.proofs.breaks_align.Statement.{statement}
 use Rattle.rules.proofs.breaks_align.Tie as tie
-use Rattle.rules.proofs.breaks_align.Reads as reads
-use Rattle.rules.proofs.breaks_align.Lts as lts
-use Rattle.events.proofs.misaligned.Reads as misaligned-reads
 
 -- src/lib.rt:40:25
 enum-told : tie.Need-enum-told

@@ -4,9 +4,6 @@ use Rattle.rules.specs.Rules.{outlastsBroken}
 use borrow.Author.Needs.{needs}
 use Rattle.rules.proofs.breaks_outlasts.Statement.{statement}
 use Rattle.rules.proofs.breaks_outlasts.Tie as tie
-use Rattle.rules.proofs.breaks_outlasts.Reads as reads
-use Rattle.rules.proofs.breaks_outlasts.Lts as lts
-use Rattle.blocks.proofs.outlasts.Reads as outlasts-reads
 
 -- src/lib.rt:57:25
 enum-told : tie.Need-enum-told

@@ -5,9 +5,6 @@ use native.Mathlib.Omega.{arith}
 use Rattle.rules.proofs.Filling.{Filling, fill-start, fill-turn, fill-end}
 use Rattle.rules.proofs.fill_lengths.Statement.{statement}
 use Rattle.rules.proofs.fill_lengths.Tie as tie
-use Rattle.rules.proofs.fill_lengths.Reads as reads
-use Rattle.rules.proofs.fill_lengths.Lts as lts
-use Rattle.rules.proofs.fill_row.Reads as fill-row-reads
 
 abbrev Inv-loop : tie.InvT-loop
 Inv-loop edition rasters rows₀ n samples k₀ rows k = Filling edition rasters rows₀ n samples rows k

@@ -6,11 +6,6 @@ use Rattle.rules.proofs.Filling.{row-past, row-block, row-other}
 use borrow.Author.Needs.{needs}
 use Rattle.rules.proofs.fill_row.Statement.{statement}
 use Rattle.rules.proofs.fill_row.Tie as tie
-use Rattle.rules.proofs.fill_row.Reads as reads
-use Rattle.rules.proofs.fill_row.Lts as lts
-use Rattle.rules.proofs.length_number.Reads as length-number-reads
-use Rattle.signed.proofs.same.Reads as same-reads
-use Rattle.tables.proofs.number.Reads as number-reads
 
 -- src/lib.rt:132:25
 number-requires : tie.Need-number-requires

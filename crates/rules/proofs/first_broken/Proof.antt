@@ -8,9 +8,6 @@ use Rattle.tables.proofs.Found.{such-start, such-here, such-further, such-none}
 use Rattle.rules.specs.Rules.{isBroken, firstBroken}
 use Rattle.rules.proofs.first_broken.Statement.{statement}
 use Rattle.rules.proofs.first_broken.Tie as tie
-use Rattle.rules.proofs.first_broken.Reads as reads
-use Rattle.rules.proofs.first_broken.Lts as lts
-use Rattle.rules.proofs.is_broken.Reads as is-broken-reads
 
 abbrev Inv-loop : tie.InvT-loop
 Inv-loop rule edition rasters rows n samples k₀ k = (k ≤ n) × (firstSuch (isBroken rule edition rasters rows n samples) k (n - k) ≡ firstBroken rule edition rasters rows n samples)

@@ -4,14 +4,6 @@ use Rattle.rules.specs.Rules.{isBroken}
 use borrow.Author.Needs.{needs}
 use Rattle.rules.proofs.is_broken.Statement.{statement}
 use Rattle.rules.proofs.is_broken.Tie as tie
-use Rattle.rules.proofs.is_broken.Reads as reads
-use Rattle.rules.proofs.is_broken.Lts as lts
-use Rattle.blocks.proofs.is_long.Reads as is-long-reads
-use Rattle.chains.proofs.loops.Reads as loops-reads
-use Rattle.events.proofs.misfits.Reads as misfits-reads
-use Rattle.references.proofs.dangles.Reads as dangles-reads
-use Rattle.rules.proofs.breaks_align.Reads as breaks-align-reads
-use Rattle.rules.proofs.breaks_outlasts.Reads as breaks-outlasts-reads
 
 -- src/lib.rt:75:28
 enum-told : tie.Need-enum-told

@@ -5,10 +5,6 @@ use Rattle.rules.proofs.Filling.{length-number}
 use borrow.Author.Needs.{needs}
 use Rattle.rules.proofs.length_number.Statement.{statement}
 use Rattle.rules.proofs.length_number.Tie as tie
-use Rattle.rules.proofs.length_number.Reads as reads
-use Rattle.rules.proofs.length_number.Lts as lts
-use Rattle.blocks.proofs.block_length.Reads as block-length-reads
-use Rattle.signed.proofs.with_sign.Reads as with-sign-reads
 
 -- src/lib.rt:116:9
 block-length-requires : tie.Need-block-length-requires

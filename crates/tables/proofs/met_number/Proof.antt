@@ -6,10 +6,6 @@ use Rattle.tables.proofs.Meeting.{number-met, number-unmet}
 use borrow.Author.Needs.{needs}
 use Rattle.tables.proofs.met_number.Statement.{statement}
 use Rattle.tables.proofs.met_number.Tie as tie
-use Rattle.tables.proofs.met_number.Reads as reads
-use Rattle.tables.proofs.met_number.Lts as lts
-use Rattle.tables.proofs.met_row.Reads as met-row-reads
-use Rattle.tables.proofs.number.Reads as number-reads
 
 -- src/lib.rt:132:9
 met-row-requires : tie.Need-met-row-requires

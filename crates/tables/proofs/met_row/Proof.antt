@@ -5,10 +5,6 @@ use Rattle.tables.proofs.Meeting.{met-none, met-found}
 use borrow.Author.Needs.{needs}
 use Rattle.tables.proofs.met_row.Statement.{statement}
 use Rattle.tables.proofs.met_row.Tie as tie
-use Rattle.tables.proofs.met_row.Reads as reads
-use Rattle.tables.proofs.met_row.Lts as lts
-use Rattle.signed.proofs.same.Reads as same-reads
-use Rattle.tables.proofs.find.Reads as find-reads
 
 -- src/lib.rt:122:8
 same-requires : tie.Need-same-requires

@@ -4,8 +4,6 @@ use Rattle.tables.proofs.Meeting.{part-none, part-rest, part-inside}
 use borrow.Author.Needs.{needs}
 use Rattle.tables.proofs.part.Statement.{statement}
 use Rattle.tables.proofs.part.Tie as tie
-use Rattle.tables.proofs.part.Reads as reads
-use Rattle.tables.proofs.part.Lts as lts
 
 -- src/lib.rt:144:9
 slice-aggregate-result : tie.Need-slice-aggregate-result

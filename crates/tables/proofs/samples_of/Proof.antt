@@ -7,11 +7,6 @@ use Rattle.tables.proofs.Meeting.{samples-are}
 use borrow.Author.Needs.{needs}
 use Rattle.tables.proofs.samples_of.Statement.{statement}
 use Rattle.tables.proofs.samples_of.Tie as tie
-use Rattle.tables.proofs.samples_of.Reads as reads
-use Rattle.tables.proofs.samples_of.Lts as lts
-use Rattle.signed.proofs.size.Reads as size-reads
-use Rattle.tables.proofs.met_number.Reads as met-number-reads
-use Rattle.tables.proofs.part.Reads as part-reads
 
 -- src/lib.rt:157:30
 met-number-requires : tie.Need-met-number-requires

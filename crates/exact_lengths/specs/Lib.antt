@@ -1,0 +1,2 @@
+-- What it means that tables are in range.
+pub mod Tables
