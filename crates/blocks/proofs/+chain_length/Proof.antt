@@ -31,35 +31,27 @@ chain-length-below t =
 abbrev chain-length-calls : ℕ → chain-length-lts.Claims
 chain-length-calls t = (entry-length-reads.Asked, entry-length-reads.Learnt, next-entry-reads.Asked, next-entry-reads.Learnt, chain-length-below t, chain-length.Post, longer-reads.Asked, longer-reads.Learnt)
 
--- src/lib.rt:148:9
 chain-length-returns : (t : ℕ) → chain-length-lts.Need-returns (chain-length-calls t) (chain-length-at t) chain-length.Post
 chain-length-returns t c = chain-out _ _ _ _ _ _ (c .if1 .taken)
 
--- src/lib.rt:151:9
 chain-length-returns-2 : (t : ℕ) → chain-length-lts.Need-returns-2 (chain-length-calls t) (chain-length-at t) chain-length.Post
 chain-length-returns-2 t c = chain-past _ _ _ _ _ _ (c .before .if1 .left) (c .if2 .taken)
 
--- src/lib.rt:153:9
 chain-length-entry-length-requires : (t : ℕ) → chain-length-lts.Need-entry-length-requires (chain-length-calls t) (chain-length-at t) chain-length.Post
 chain-length-entry-length-requires t c κs = tt
 
--- src/lib.rt:154:9
 chain-length-next-entry-requires : (t : ℕ) → chain-length-lts.Need-next-entry-requires (chain-length-calls t) (chain-length-at t) chain-length.Post
 chain-length-next-entry-requires t c κs = tt
 
--- src/lib.rt:155:62
 chain-length-sub-chain-length : (t : ℕ) → chain-length-lts.Need-sub-chain-length (chain-length-calls t) (chain-length-at t) chain-length.Post
 chain-length-sub-chain-length t c = omega arith
 
--- src/lib.rt:155:16
 chain-length-chain-length-requires : (t : ℕ) → chain-length-lts.Need-chain-length-requires (chain-length-calls t) (chain-length-at t) chain-length.Post
 chain-length-chain-length-requires t c κs = (omega arith, tt)
 
--- src/lib.rt:155:5
 chain-length-longer-requires : (t : ℕ) → chain-length-lts.Need-longer-requires (chain-length-calls t) (chain-length-at t) chain-length.Post
 chain-length-longer-requires t c κs = tt
 
--- src/lib.rt:137:1
 chain-length-returns-3 : (t : ℕ) → chain-length-lts.Need-returns-3 (chain-length-calls t) (chain-length-at t) chain-length.Post
 chain-length-returns-3 t c = let x = c .before in
     let m = x .before in

@@ -6,35 +6,27 @@ use borrow.Author.Needs.{needs}
 use Rattle.blocks.proofs.block_length.Statement.{statement}
 use Rattle.blocks.proofs.block_length.Tie as tie
 
--- src/lib.rt:117:39
 enum-told : tie.Need-enum-told
 enum-told c = search needs
 
--- src/lib.rt:117:25
 longest-event-requires : tie.Need-longest-event-requires
 longest-event-requires c κs = search needs
 
--- src/lib.rt:119:53
 enum-told-2 : tie.Need-enum-told-2
 enum-told-2 c = search needs
 
--- src/lib.rt:119:53
 number-requires : tie.Need-number-requires
 number-requires c κs = search needs
 
--- src/lib.rt:119:40
 size-requires : tie.Need-size-requires
 size-requires c κs = search needs
 
--- src/lib.rt:120:13
 nanos-requires : tie.Need-nanos-requires
 nanos-requires c κs = search needs
 
--- src/lib.rt:106:1
 returns : tie.Need-returns
 returns c = c .longest-event .ensures ∙ block-13 _ _ _ _ _ _ (c .before .enum-told .given .1)
 
--- src/lib.rt:106:1
 returns-2 : tie.Need-returns-2
 returns-2 c = let s = c .before in
     let m = s .before .number in

@@ -6,23 +6,18 @@ use borrow.Author.Needs.{needs}
 use Rattle.blocks.proofs.entry_length.Statement.{statement}
 use Rattle.blocks.proofs.entry_length.Tie as tie
 
--- src/lib.rt:125:52
 number-requires : tie.Need-number-requires
 number-requires c κs = search needs
 
--- src/lib.rt:125:9
 extension-ref-requires : tie.Need-extension-ref-requires
 extension-ref-requires c κs = search needs
 
--- src/lib.rt:132:9
 number-requires-2 : tie.Need-number-requires-2
 number-requires-2 c κs = search needs
 
--- src/lib.rt:126:5
 met-length-requires : tie.Need-met-length-requires
 met-length-requires c κs = search needs
 
--- src/lib.rt:122:1
 returns : tie.Need-returns
 returns c = let i = c .before .number2 in
     let x = c .before .before .extension-ref in

@@ -7,30 +7,24 @@ use borrow.Author.Needs.{needs}
 use Rattle.blocks.proofs.is_long.Statement.{statement}
 use Rattle.blocks.proofs.is_long.Tie as tie
 
--- src/lib.rt:136:21
 number-requires : tie.Need-number-requires
 number-requires c κs = search needs
 
--- src/lib.rt:136:8
 same-requires : tie.Need-same-requires
 same-requires c κs = search needs
 
--- src/lib.rt:137:13
 block-length-requires : tie.Need-block-length-requires
 block-length-requires c κs = search needs
 
--- src/lib.rt:138:9
 exceeds-requires : tie.Need-exceeds-requires
 exceeds-requires c κs = search needs
 
--- src/lib.rt:138:9
 returns : tie.Need-returns
 returns c = let b = c .before in
     let s = b .before .before in
     let m = s .before .number in
     long-block _ _ _ _ _ _ (m .ensures) _ (compared _ _ _ _ (s .same .ensures) (rd-at _ (m .ok)) refl ∙ b .before .if1 .taken) _ _ (b .block-length .ensures) (c .exceeds .ensures)
 
--- src/lib.rt:126:1
 returns-2 : tie.Need-returns-2
 returns-2 c = let s = c .before in
     let m = s .before .number in

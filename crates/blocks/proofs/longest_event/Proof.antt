@@ -13,35 +13,27 @@ Inv-loop edition rasters rows n samples k longest₀ c₀ longest c = Longest ra
 abbrev μ-loop : tie.MeasureT-loop
 μ-loop edition rasters rows n samples k longest₀ c₀ longest c = 9 - c
 
--- src/lib.rt:96:5
 loop-holds : tie.Need-loop-holds Inv-loop μ-loop
 loop-holds c = longest-start _ _ _ _ _ _
 
--- src/lib.rt:97:13
 ref-at-requires : tie.Need-ref-at-requires Inv-loop μ-loop
 ref-at-requires c κs = search needs
 
--- src/lib.rt:98:13
 number-requires : tie.Need-number-requires Inv-loop μ-loop
 number-requires c κs = search needs
 
--- src/lib.rt:99:34
 reference-length-requires : tie.Need-reference-length-requires Inv-loop μ-loop
 reference-length-requires c κs = search needs
 
--- src/lib.rt:99:9
 longer-requires : tie.Need-longer-requires Inv-loop μ-loop
 longer-requires c κs = search needs
 
--- src/lib.rt:100:9
 add-c : tie.Need-add-c Inv-loop μ-loop
 add-c c = search needs
 
--- src/lib.rt:96:5
 loop-less : tie.Need-loop-less Inv-loop μ-loop
 loop-less c = omega arith
 
--- src/lib.rt:96:5
 loop-again : tie.Need-loop-again Inv-loop μ-loop
 loop-again c = let r = c .before in
     let i = r .before .number in
@@ -49,7 +41,6 @@ loop-again c = let r = c .before in
     let l = x .before in
     longest-turn _ _ _ _ _ _ _ _ _ _ _ _ _ _ (l .before .loop .inv) (l .loop-test .taken) (x .ref-at .ensures) (rd-at _ (x .ref-at .ok)) (i .ensures) (rd-at _ (i .ok)) (r .reference-length .ensures) (c .longer .ensures)
 
--- src/lib.rt:84:1
 returns : tie.Need-returns Inv-loop μ-loop
 returns c = longest-end _ _ _ _ _ _ _ _ (c .before .loop .inv) (c .loop-test .left)
 

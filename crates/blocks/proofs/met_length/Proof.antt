@@ -6,21 +6,17 @@ use borrow.Author.Needs.{needs}
 use Rattle.blocks.proofs.met_length.Statement.{statement}
 use Rattle.blocks.proofs.met_length.Tie as tie
 
--- src/lib.rt:114:9
 met-row-requires : tie.Need-met-row-requires
 met-row-requires c κs = search needs
 
--- src/lib.rt:116:9
 row-length-requires : tie.Need-row-length-requires
 row-length-requires c κs = search needs
 
--- src/lib.rt:116:9
 returns : tie.Need-returns
 returns c = let m = c .before .before in
     let a = m .before .fits in
     c .row-length .ensures ∙ met-event _ _ _ _ (rd-is (a .class)) (rd-is (a .id)) _ (m .met-row .ensures) (c .before .if1 .taken)
 
--- src/lib.rt:104:1
 returns-2 : tie.Need-returns-2
 returns-2 c = let m = c .before in
     let a = m .before .fits in

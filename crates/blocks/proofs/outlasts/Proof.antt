@@ -7,27 +7,21 @@ use borrow.Author.Needs.{needs}
 use Rattle.blocks.proofs.outlasts.Statement.{statement}
 use Rattle.blocks.proofs.outlasts.Tie as tie
 
--- src/lib.rt:147:21
 number-requires : tie.Need-number-requires
 number-requires c κs = search needs
 
--- src/lib.rt:147:8
 same-requires : tie.Need-same-requires
 same-requires c κs = search needs
 
--- src/lib.rt:148:13
 block-length-requires : tie.Need-block-length-requires
 block-length-requires c κs = search needs
 
--- src/lib.rt:149:16
 longest-event-requires : tie.Need-longest-event-requires
 longest-event-requires c κs = search needs
 
--- src/lib.rt:149:9
 exceeds-requires : tie.Need-exceeds-requires
 exceeds-requires c κs = search needs
 
--- src/lib.rt:149:9
 returns : tie.Need-returns
 returns c = let l = c .before in
     let b = l .before in
@@ -35,7 +29,6 @@ returns c = let l = c .before in
     let m = s .before .number in
     outlasts-block _ _ _ _ _ _ (m .ensures) (compared _ _ _ _ (s .same .ensures) (rd-at _ (m .ok)) refl ∙ b .before .if1 .taken) _ _ _ (b .block-length .ensures) (l .longest-event .ensures) (c .exceeds .ensures)
 
--- src/lib.rt:144:1
 returns-2 : tie.Need-returns-2
 returns-2 c = let s = c .before in
     let m = s .before .number in

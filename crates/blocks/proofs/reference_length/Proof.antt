@@ -6,30 +6,24 @@ use borrow.Author.Needs.{needs}
 use Rattle.blocks.proofs.reference_length.Statement.{statement}
 use Rattle.blocks.proofs.reference_length.Tie as tie
 
--- src/lib.rt:76:8
 same-requires : tie.Need-same-requires
 same-requires c κs = search needs
 
--- src/lib.rt:77:13
 met-row-requires : tie.Need-met-row-requires
 met-row-requires c κs = search needs
 
--- src/lib.rt:78:9
 chain-length-requires : tie.Need-chain-length-requires
 chain-length-requires c κs = search needs
 
--- src/lib.rt:78:9
 returns : tie.Need-returns
 returns c = let m = c .before in
     let s = m .before .before in
     let a = s .before .fits in
     c .chain-length .ensures ∙ reference-chain _ _ _ _ (rd-is (a .class)) (rd-is (a .id)) _ (m .met-row .ensures) (sym (s .same .ensures) ∙ m .before .if1 .taken)
 
--- src/lib.rt:80:5
 met-length-requires : tie.Need-met-length-requires
 met-length-requires c κs = search needs
 
--- src/lib.rt:66:1
 returns-2 : tie.Need-returns-2
 returns-2 c = let s = c .before .before in
     let a = s .before .fits in

@@ -10,15 +10,12 @@ use Rattle.chains.proofs.next_entry.Lts as lts
 use Rattle.tables.proofs.met_row.Reads as met-row-reads
 use Rattle.tables.proofs.number.Reads as number-reads
 
--- src/lib.rt:9:33
 number-requires : tie.Need-number-requires
 number-requires c κs = search needs
 
--- src/lib.rt:9:5
 met-row-requires : tie.Need-met-row-requires
 met-row-requires c κs = search needs
 
--- src/lib.rt:6:1
 returns : tie.Need-returns
 returns c = let m = c .before .number in c .met-row .ensures ∙ entry-next _ _ _ _ _ (rd-at _ (m .ok)) (m .ensures)
 

@@ -6,21 +6,17 @@ use borrow.Author.Needs.{needs}
 use Rattle.events.proofs.follows.Statement.{statement}
 use Rattle.events.proofs.follows.Tie as tie
 
--- src/lib.rt:30:8
 less-requires : tie.Need-less-requires
 less-requires c κs = search needs
 
--- src/lib.rt:31:16
 size-requires : tie.Need-size-requires
 size-requires c κs = search needs
 
--- src/lib.rt:31:9
 returns : tie.Need-returns
 returns c = let l = c .before .before in
     let a = l .before .fits in
     follows-later (rd-is (a .last)) (rd-is (a .z)) (sym (l .less .ensures) ∙ c .before .if1 .taken) _ (c .size .ensures)
 
--- src/lib.rt:27:1
 returns-2 : tie.Need-returns-2
 returns-2 c = let l = c .before in
     let a = l .before .fits in

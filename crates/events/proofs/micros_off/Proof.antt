@@ -6,23 +6,18 @@ use borrow.Author.Needs.{needs}
 use Rattle.events.proofs.micros_off.Statement.{statement}
 use Rattle.events.proofs.micros_off.Tie as tie
 
--- src/lib.rt:118:36
 number-requires : tie.Need-number-requires
 number-requires c κs = search needs
 
--- src/lib.rt:118:23
 size-requires : tie.Need-size-requires
 size-requires c κs = search needs
 
--- src/lib.rt:119:9
 nanos-requires : tie.Need-nanos-requires
 nanos-requires c κs = search needs
 
--- src/lib.rt:119:5
 off-requires : tie.Need-off-requires
 off-requires c κs = search needs
 
--- src/lib.rt:115:1
 returns : tie.Need-returns
 returns c = let s = c .before .before in
     let m = s .before .number in

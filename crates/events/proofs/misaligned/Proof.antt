@@ -7,33 +7,26 @@ use borrow.Author.Needs.{needs}
 use Rattle.events.proofs.misaligned.Statement.{statement}
 use Rattle.events.proofs.misaligned.Tie as tie
 
--- src/lib.rt:142:9
 number-requires : tie.Need-number-requires
 number-requires c κs = search needs
 
--- src/lib.rt:143:8
 same-requires : tie.Need-same-requires
 same-requires c κs = search needs
 
--- src/lib.rt:144:9
 micros-off-requires : tie.Need-micros-off-requires
 micros-off-requires c κs = search needs
 
--- src/lib.rt:144:9
 returns : tie.Need-returns
 returns c = let s = c .before .before in
     let m = s .before .number in
     c .micros-off .ensures ∙ align-rf _ _ _ _ (m .ensures) (compared _ _ _ _ (s .same .ensures) (rd-at _ (m .ok)) refl ∙ c .before .if1 .taken)
 
--- src/lib.rt:146:8
 same-requires-2 : tie.Need-same-requires-2
 same-requires-2 c κs = search needs
 
--- src/lib.rt:147:9
 micros-off-requires-2 : tie.Need-micros-off-requires-2
 micros-off-requires-2 c κs = search needs
 
--- src/lib.rt:147:9
 returns-2 : tie.Need-returns-2
 returns-2 c = let t = c .before .before in
     let s = t .before .before in
@@ -41,15 +34,12 @@ returns-2 c = let t = c .before .before in
     let z = rd-at _ (m .ok) in
     c .micros-off2 .ensures ∙ align-gradient _ _ _ _ (m .ensures) (compared _ _ _ _ (s .same .ensures) z refl ∙ t .before .if1 .left) (compared _ _ _ _ (t .same2 .ensures) z refl ∙ c .before .if2 .taken)
 
--- src/lib.rt:149:8
 same-requires-3 : tie.Need-same-requires-3
 same-requires-3 c κs = search needs
 
--- src/lib.rt:150:9
 trap-off-requires : tie.Need-trap-off-requires
 trap-off-requires c κs = search needs
 
--- src/lib.rt:150:9
 returns-3 : tie.Need-returns-3
 returns-3 c = let u = c .before .before in
     let t = u .before .before in
@@ -58,23 +48,18 @@ returns-3 c = let u = c .before .before in
     let z = rd-at _ (m .ok) in
     c .trap-off .ensures ∙ align-trap _ _ _ _ (m .ensures) (compared _ _ _ _ (s .same .ensures) z refl ∙ t .before .if1 .left) (compared _ _ _ _ (t .same2 .ensures) z refl ∙ u .before .if2 .left) (compared _ _ _ _ (u .same3 .ensures) z refl ∙ c .before .if3 .taken)
 
--- src/lib.rt:152:8
 same-requires-4 : tie.Need-same-requires-4
 same-requires-4 c κs = search needs
 
--- src/lib.rt:153:40
 number-requires-2 : tie.Need-number-requires-2
 number-requires-2 c κs = search needs
 
--- src/lib.rt:153:27
 size-requires : tie.Need-size-requires
 size-requires c κs = search needs
 
--- src/lib.rt:154:9
 off-requires : tie.Need-off-requires
 off-requires c κs = search needs
 
--- src/lib.rt:154:9
 returns-4 : tie.Need-returns-4
 returns-4 c = let d = c .before in
     let v = d .before .before .before in
@@ -86,7 +71,6 @@ returns-4 c = let d = c .before in
     let w = d .before .number2 in
     c .off .ensures ∙ align-adc _ _ _ _ (m .ensures) (compared _ _ _ _ (s .same .ensures) z refl ∙ t .before .if1 .left) (compared _ _ _ _ (t .same2 .ensures) z refl ∙ u .before .if2 .left) (compared _ _ _ _ (u .same3 .ensures) z refl ∙ v .before .if3 .left) (compared _ _ _ _ (v .same4 .ensures) z refl ∙ d .before .before .if4 .taken) _ _ (rd-at _ (w .ok) ∙ w .ensures) (d .size .ensures)
 
--- src/lib.rt:139:1
 returns-5 : tie.Need-returns-5
 returns-5 c = let v = c .before in
     let u = v .before .before in

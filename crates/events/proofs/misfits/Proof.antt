@@ -7,33 +7,26 @@ use borrow.Author.Needs.{needs}
 use Rattle.events.proofs.misfits.Statement.{statement}
 use Rattle.events.proofs.misfits.Tie as tie
 
--- src/lib.rt:94:9
 number-requires : tie.Need-number-requires
 number-requires c κs = search needs
 
--- src/lib.rt:95:8
 same-requires : tie.Need-same-requires
 same-requires c κs = search needs
 
--- src/lib.rt:96:17
 rf-fits-requires : tie.Need-rf-fits-requires
 rf-fits-requires c κs = search needs
 
--- src/lib.rt:96:9
 returns : tie.Need-returns
 returns c = let s = c .before .before in
     let m = s .before .number in
     misfit-rf _ _ _ _ _ (m .ensures) (compared _ _ _ _ (s .same .ensures) (rd-at _ (m .ok)) refl ∙ c .before .if1 .taken) _ (c .rf-fits .ensures)
 
--- src/lib.rt:98:8
 same-requires-2 : tie.Need-same-requires-2
 same-requires-2 c κs = search needs
 
--- src/lib.rt:99:17
 shaped-fits-requires : tie.Need-shaped-fits-requires
 shaped-fits-requires c κs = search needs
 
--- src/lib.rt:99:9
 returns-2 : tie.Need-returns-2
 returns-2 c = let t = c .before .before in
     let s = t .before .before in
@@ -41,7 +34,6 @@ returns-2 c = let t = c .before .before in
     let z = rd-at _ (m .ok) in
     misfit-gradient _ _ _ _ _ (m .ensures) (compared _ _ _ _ (s .same .ensures) z refl ∙ t .before .if1 .left) (compared _ _ _ _ (t .same2 .ensures) z refl ∙ c .before .if2 .taken) _ (c .shaped-fits .ensures)
 
--- src/lib.rt:91:1
 returns-3 : tie.Need-returns-3
 returns-3 c = let t = c .before in
     let s = t .before .before in

@@ -4,23 +4,18 @@ use borrow.Author.Needs.{needs}
 use Rattle.events.proofs.off.Statement.{statement}
 use Rattle.events.proofs.off.Tie as tie
 
--- src/lib.rt:108:11
 steps-requires : tie.Need-steps-requires
 steps-requires c κs = search needs
 
--- src/lib.rt:109:31
 enum-told : tie.Need-enum-told
 enum-told c = search needs
 
--- src/lib.rt:110:26
 enum-told-2 : tie.Need-enum-told-2
 enum-told-2 c = search needs
 
--- src/lib.rt:105:1
 returns : tie.Need-returns
 returns c = off-no _ _ _ (c .before .before .steps .ensures) _ (c .enum-told .given .1)
 
--- src/lib.rt:105:1
 returns-2 : tie.Need-returns-2
 returns-2 c = off-yes _ _ _ (c .before .before .steps .ensures) (c .enum-told2 .given .1)
 

@@ -6,27 +6,21 @@ use borrow.Author.Needs.{needs}
 use Rattle.events.proofs.rf_fits.Statement.{statement}
 use Rattle.events.proofs.rf_fits.Tie as tie
 
--- src/lib.rt:82:58
 number-requires : tie.Need-number-requires
 number-requires c κs = search needs
 
--- src/lib.rt:82:9
 samples-of-requires : tie.Need-samples-of-requires
 samples-of-requires c κs = search needs
 
--- src/lib.rt:83:54
 number-requires-2 : tie.Need-number-requires-2
 number-requires-2 c κs = search needs
 
--- src/lib.rt:83:9
 samples-of-requires-2 : tie.Need-samples-of-requires-2
 samples-of-requires-2 c κs = search needs
 
--- src/lib.rt:85:9
 shaped-fits-requires : tie.Need-shaped-fits-requires
 shaped-fits-requires c κs = search needs
 
--- src/lib.rt:85:9
 returns : tie.Need-returns
 returns c = let t = c .before .before in
     let s = t .before .before in
@@ -34,7 +28,6 @@ returns c = let t = c .before .before in
     let a = s .before .number in
     c .shaped-fits .ensures ∙ rf-counts _ _ _ _ _ _ (rd-at _ (a .ok) ∙ a .ensures) (s .samples-of .ensures) _ _ (rd-at _ (b .ok) ∙ b .ensures) (t .samples-of2 .ensures) (c .before .if1 .taken)
 
--- src/lib.rt:79:1
 returns-2 : tie.Need-returns-2
 returns-2 c = let t = c .before in
     let s = t .before .before in

@@ -20,43 +20,34 @@ Inv-loop times last₀ i₀ last i = risesFrom (toZ w64 last) (drop i times) ≡
 abbrev μ-loop : tie.MeasureT-loop
 μ-loop times last₀ i₀ last i = length times - i
 
--- src/lib.rt:42:5
 loop-holds : tie.Need-loop-holds Inv-loop μ-loop
 loop-holds c = refl
 
--- src/lib.rt:43:17
 mul-z : tie.Need-mul-z Inv-loop μ-loop
 mul-z c = search needs
 
--- src/lib.rt:43:17
 shared-slice-copy-out-z : tie.Need-shared-slice-copy-out-z Inv-loop μ-loop
 shared-slice-copy-out-z c = search needs
 
--- src/lib.rt:44:13
 follows-requires : tie.Need-follows-requires Inv-loop μ-loop
 follows-requires c κs = search needs
 
--- src/lib.rt:45:13
 returns : tie.Need-returns Inv-loop μ-loop
 returns c = let s = c .before in
     let l = s .before .before in
     rise-not _ _ (l .loop-test .taken) _ (rd-at _ (s .before .z .given)) _ (sym (s .follows .ensures) ∙ not-true _ (c .if1 .taken)) ∙ l .before .loop .inv
 
--- src/lib.rt:48:9
 add-i : tie.Need-add-i Inv-loop μ-loop
 add-i c = search needs
 
--- src/lib.rt:42:5
 loop-less : tie.Need-loop-less Inv-loop μ-loop
 loop-less c = omega arith
 
--- src/lib.rt:42:5
 loop-again : tie.Need-loop-again Inv-loop μ-loop
 loop-again c = let s = c .before in
     let l = s .before .before in
     rise-turn _ _ (l .loop-test .taken) _ (rd-at _ (s .before .z .given)) _ (sym (s .follows .ensures) ∙ not-false _ (c .if1 .left)) ∙ l .before .loop .inv
 
--- src/lib.rt:37:1
 returns-2 : tie.Need-returns-2 Inv-loop μ-loop
 returns-2 c = rise-end _ _ (c .loop-test .left) _ ∙ c .before .loop .inv
 

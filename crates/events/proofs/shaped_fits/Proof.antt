@@ -6,27 +6,21 @@ use borrow.Author.Needs.{needs}
 use Rattle.events.proofs.shaped_fits.Statement.{statement}
 use Rattle.events.proofs.shaped_fits.Tie as tie
 
--- src/lib.rt:71:58
 number-requires : tie.Need-number-requires
 number-requires c κs = search needs
 
--- src/lib.rt:71:9
 samples-of-requires : tie.Need-samples-of-requires
 samples-of-requires c κs = search needs
 
--- src/lib.rt:72:8
 within-one-requires : tie.Need-within-one-requires
 within-one-requires c κs = search needs
 
--- src/lib.rt:73:44
 number-requires-2 : tie.Need-number-requires-2
 number-requires-2 c κs = search needs
 
--- src/lib.rt:73:9
 time-fits-requires : tie.Need-time-fits-requires
 time-fits-requires c κs = search needs
 
--- src/lib.rt:73:9
 returns : tie.Need-returns
 returns c = let m = c .before .number2 in
     let w = c .before .before .before in
@@ -34,7 +28,6 @@ returns c = let m = c .before .number2 in
     let a = s .before .number in
     c .time-fits .ensures ∙ shaped-fit _ _ _ _ _ _ (rd-at _ (a .ok) ∙ a .ensures) (s .samples-of .ensures) _ (sym (w .within-one .ensures) ∙ c .before .before .if1 .taken) _ (rd-at _ (m .ok) ∙ m .ensures)
 
--- src/lib.rt:68:1
 returns-2 : tie.Need-returns-2
 returns-2 c = let w = c .before in
     let s = w .before in

@@ -6,29 +6,23 @@ use borrow.Author.Needs.{needs}
 use Rattle.events.proofs.time_fits.Statement.{statement}
 use Rattle.events.proofs.time_fits.Tie as tie
 
--- src/lib.rt:57:8
 same-requires : tie.Need-same-requires
 same-requires c κs = search needs
 
--- src/lib.rt:58:9
 returns : tie.Need-returns
 returns c = let s = c .before in time-none _ _ _ (rd-is (s .before .fits .id)) _ (sym (s .same .ensures) ∙ c .if1 .taken)
 
--- src/lib.rt:60:9
 samples-of-requires : tie.Need-samples-of-requires
 samples-of-requires c κs = search needs
 
--- src/lib.rt:62:9
 rises-requires : tie.Need-rises-requires
 rises-requires c κs = search needs
 
--- src/lib.rt:62:9
 returns-2 : tie.Need-returns-2
 returns-2 c = let t = c .before .before in
     let s = t .before .before in
     c .rises .ensures ∙ time-count _ _ _ (rd-is (s .before .fits .id)) _ (sym (s .same .ensures) ∙ t .before .if1 .left) _ (t .samples-of .ensures) (c .before .if2 .taken)
 
--- src/lib.rt:54:1
 returns-3 : tie.Need-returns-3
 returns-3 c = let t = c .before in
     let s = t .before .before in

@@ -5,37 +5,29 @@ use borrow.Author.Needs.{needs}
 use Rattle.events.proofs.trap_off.Statement.{statement}
 use Rattle.events.proofs.trap_off.Tie as tie
 
--- src/lib.rt:126:8
 micros-off-requires : tie.Need-micros-off-requires
 micros-off-requires c κs = search needs
 
--- src/lib.rt:127:9
 returns : tie.Need-returns
 returns c = trap-first _ _ _ _ true true true (c .before .micros-off .ensures) (c .if1 .taken)
 
--- src/lib.rt:129:8
 micros-off-requires-2 : tie.Need-micros-off-requires-2
 micros-off-requires-2 c κs = search needs
 
--- src/lib.rt:130:9
 returns-2 : tie.Need-returns-2
 returns-2 c = let a = c .before .before in trap-second _ _ _ _ _ true true (a .before .micros-off .ensures) (a .if1 .left) (c .before .micros-off2 .ensures) (c .if2 .taken)
 
--- src/lib.rt:132:8
 micros-off-requires-3 : tie.Need-micros-off-requires-3
 micros-off-requires-3 c κs = search needs
 
--- src/lib.rt:133:9
 returns-3 : tie.Need-returns-3
 returns-3 c = let b = c .before .before in
     let a = b .before .before in
     trap-third _ _ _ _ _ _ true (a .before .micros-off .ensures) (a .if1 .left) (b .before .micros-off2 .ensures) (b .if2 .left) (c .before .micros-off3 .ensures) (c .if3 .taken)
 
--- src/lib.rt:135:5
 micros-off-requires-4 : tie.Need-micros-off-requires-4
 micros-off-requires-4 c κs = search needs
 
--- src/lib.rt:123:1
 returns-4 : tie.Need-returns-4
 returns-4 c = let d = c .before in
     let b = d .before .before in

@@ -16,43 +16,34 @@ Inv-loop samples i₀ i = allUnit (drop i samples) ≡ allUnit samples
 abbrev μ-loop : tie.MeasureT-loop
 μ-loop samples i₀ i = length samples - i
 
--- src/lib.rt:16:5
 loop-holds : tie.Need-loop-holds Inv-loop μ-loop
 loop-holds c = refl
 
--- src/lib.rt:17:17
 mul-z : tie.Need-mul-z Inv-loop μ-loop
 mul-z c = search needs
 
--- src/lib.rt:17:17
 shared-slice-copy-out-z : tie.Need-shared-slice-copy-out-z Inv-loop μ-loop
 shared-slice-copy-out-z c = search needs
 
--- src/lib.rt:18:28
 size-requires : tie.Need-size-requires Inv-loop μ-loop
 size-requires c κs = search needs
 
--- src/lib.rt:19:13
 returns : tie.Need-returns Inv-loop μ-loop
 returns c = let s = c .before in
     let l = s .before .before in
     unit-past _ _ (l .loop-test .taken) _ (rd-at _ (s .before .z .given)) (let e = s .size .ensures in omega arith) ∙ l .before .loop .inv
 
--- src/lib.rt:21:9
 add-i : tie.Need-add-i Inv-loop μ-loop
 add-i c = search needs
 
--- src/lib.rt:16:5
 loop-less : tie.Need-loop-less Inv-loop μ-loop
 loop-less c = omega arith
 
--- src/lib.rt:16:5
 loop-again : tie.Need-loop-again Inv-loop μ-loop
 loop-again c = let s = c .before in
     let l = s .before .before in
     unit-turn _ _ (l .loop-test .taken) _ (rd-at _ (s .before .z .given)) (let e = s .size .ensures in omega arith) ∙ l .before .loop .inv
 
--- src/lib.rt:12:1
 returns-2 : tie.Need-returns-2 Inv-loop μ-loop
 returns-2 c = unit-end _ _ (c .loop-test .left) ∙ c .before .loop .inv
 

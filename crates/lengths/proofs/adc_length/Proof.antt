@@ -6,35 +6,27 @@ use borrow.Author.Needs.{needs}
 use Rattle.lengths.proofs.adc_length.Statement.{statement}
 use Rattle.lengths.proofs.adc_length.Tie as tie
 
--- src/lib.rt:72:42
 number-requires : tie.Need-number-requires
 number-requires c κs = search needs
 
--- src/lib.rt:72:29
 size-requires : tie.Need-size-requires
 size-requires c κs = search needs
 
--- src/lib.rt:73:36
 number-requires-2 : tie.Need-number-requires-2
 number-requires-2 c κs = search needs
 
--- src/lib.rt:73:23
 size-requires-2 : tie.Need-size-requires-2
 size-requires-2 c κs = search needs
 
--- src/lib.rt:74:5
 micros-requires : tie.Need-micros-requires
 micros-requires c κs = search needs
 
--- src/lib.rt:74:29
 nanos-requires : tie.Need-nanos-requires
 nanos-requires c κs = search needs
 
--- src/lib.rt:74:5
 plus-requires : tie.Need-plus-requires
 plus-requires c κs = search needs
 
--- src/lib.rt:69:1
 returns : tie.Need-returns
 returns c = let y = c .before in
     let w = y .before in

@@ -6,19 +6,15 @@ use borrow.Author.Needs.{needs}
 use Rattle.lengths.proofs.micros.Statement.{statement}
 use Rattle.lengths.proofs.micros.Tie as tie
 
--- src/lib.rt:15:36
 number-requires : tie.Need-number-requires
 number-requires c κs = search needs
 
--- src/lib.rt:15:23
 size-requires : tie.Need-size-requires
 size-requires c κs = search needs
 
--- src/lib.rt:16:5
 nanos-requires : tie.Need-nanos-requires
 nanos-requires c κs = search needs
 
--- src/lib.rt:12:1
 returns : tie.Need-returns
 returns c = let s = c .before in
     let m = s .before .number in

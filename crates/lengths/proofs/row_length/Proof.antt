@@ -7,33 +7,26 @@ use borrow.Author.Needs.{needs}
 use Rattle.lengths.proofs.row_length.Statement.{statement}
 use Rattle.lengths.proofs.row_length.Tie as tie
 
--- src/lib.rt:81:9
 number-requires : tie.Need-number-requires
 number-requires c κs = search needs
 
--- src/lib.rt:82:8
 same-requires : tie.Need-same-requires
 same-requires c κs = search needs
 
--- src/lib.rt:83:9
 shaped-length-requires : tie.Need-shaped-length-requires
 shaped-length-requires c κs = search needs
 
--- src/lib.rt:83:9
 returns : tie.Need-returns
 returns c = let s = c .before .before in
     let m = s .before .number in
     c .shaped-length .ensures ∙ length-rf _ _ _ _ _ _ (m .ensures) (compared _ _ _ _ (s .same .ensures) (rd-at _ (m .ok)) refl ∙ c .before .if1 .taken)
 
--- src/lib.rt:85:8
 same-requires-2 : tie.Need-same-requires-2
 same-requires-2 c κs = search needs
 
--- src/lib.rt:86:9
 shaped-length-requires-2 : tie.Need-shaped-length-requires-2
 shaped-length-requires-2 c κs = search needs
 
--- src/lib.rt:86:9
 returns-2 : tie.Need-returns-2
 returns-2 c = let t = c .before .before in
     let s = t .before .before in
@@ -41,15 +34,12 @@ returns-2 c = let t = c .before .before in
     let z = rd-at _ (m .ok) in
     c .shaped-length2 .ensures ∙ length-gradient _ _ _ _ _ _ (m .ensures) (compared _ _ _ _ (s .same .ensures) z refl ∙ t .before .if1 .left) (compared _ _ _ _ (t .same2 .ensures) z refl ∙ c .before .if2 .taken)
 
--- src/lib.rt:88:8
 same-requires-3 : tie.Need-same-requires-3
 same-requires-3 c κs = search needs
 
--- src/lib.rt:89:9
 trap-length-requires : tie.Need-trap-length-requires
 trap-length-requires c κs = search needs
 
--- src/lib.rt:89:9
 returns-3 : tie.Need-returns-3
 returns-3 c = let u = c .before .before in
     let t = u .before .before in
@@ -58,15 +48,12 @@ returns-3 c = let u = c .before .before in
     let z = rd-at _ (m .ok) in
     c .trap-length .ensures ∙ length-trap _ _ _ _ _ _ (m .ensures) (compared _ _ _ _ (s .same .ensures) z refl ∙ t .before .if1 .left) (compared _ _ _ _ (t .same2 .ensures) z refl ∙ u .before .if2 .left) (compared _ _ _ _ (u .same3 .ensures) z refl ∙ c .before .if3 .taken)
 
--- src/lib.rt:91:8
 same-requires-4 : tie.Need-same-requires-4
 same-requires-4 c κs = search needs
 
--- src/lib.rt:92:9
 adc-length-requires : tie.Need-adc-length-requires
 adc-length-requires c κs = search needs
 
--- src/lib.rt:92:9
 returns-4 : tie.Need-returns-4
 returns-4 c = let v = c .before .before in
     let u = v .before .before in
@@ -76,15 +63,12 @@ returns-4 c = let v = c .before .before in
     let z = rd-at _ (m .ok) in
     c .adc-length .ensures ∙ length-adc _ _ _ _ _ _ (m .ensures) (compared _ _ _ _ (s .same .ensures) z refl ∙ t .before .if1 .left) (compared _ _ _ _ (t .same2 .ensures) z refl ∙ u .before .if2 .left) (compared _ _ _ _ (u .same3 .ensures) z refl ∙ v .before .if3 .left) (compared _ _ _ _ (v .same4 .ensures) z refl ∙ c .before .if4 .taken)
 
--- src/lib.rt:94:8
 same-requires-5 : tie.Need-same-requires-5
 same-requires-5 c κs = search needs
 
--- src/lib.rt:95:9
 micros-requires : tie.Need-micros-requires
 micros-requires c κs = search needs
 
--- src/lib.rt:95:9
 returns-5 : tie.Need-returns-5
 returns-5 c = let w = c .before .before in
     let v = w .before .before in
@@ -95,23 +79,18 @@ returns-5 c = let w = c .before .before in
     let z = rd-at _ (m .ok) in
     c .micros .ensures ∙ length-delay _ _ _ _ _ _ (m .ensures) (compared _ _ _ _ (s .same .ensures) z refl ∙ t .before .if1 .left) (compared _ _ _ _ (t .same2 .ensures) z refl ∙ u .before .if2 .left) (compared _ _ _ _ (u .same3 .ensures) z refl ∙ v .before .if3 .left) (compared _ _ _ _ (v .same4 .ensures) z refl ∙ w .before .if4 .left) (compared _ _ _ _ (w .same5 .ensures) z refl ∙ c .before .if5 .taken)
 
--- src/lib.rt:97:8
 same-requires-6 : tie.Need-same-requires-6
 same-requires-6 c κs = search needs
 
--- src/lib.rt:98:16
 micros-requires-2 : tie.Need-micros-requires-2
 micros-requires-2 c κs = search needs
 
--- src/lib.rt:98:40
 micros-requires-3 : tie.Need-micros-requires-3
 micros-requires-3 c κs = search needs
 
--- src/lib.rt:98:9
 plus-requires : tie.Need-plus-requires
 plus-requires c κs = search needs
 
--- src/lib.rt:98:9
 returns-6 : tie.Need-returns-6
 returns-6 c = let l = c .before in
     let d = l .before in
@@ -125,7 +104,6 @@ returns-6 c = let l = c .before in
     let z = rd-at _ (m .ok) in
     length-trigger _ _ _ _ _ _ (m .ensures) (compared _ _ _ _ (s .same .ensures) z refl ∙ t .before .if1 .left) (compared _ _ _ _ (t .same2 .ensures) z refl ∙ u .before .if2 .left) (compared _ _ _ _ (u .same3 .ensures) z refl ∙ v .before .if3 .left) (compared _ _ _ _ (v .same4 .ensures) z refl ∙ w .before .if4 .left) (compared _ _ _ _ (w .same5 .ensures) z refl ∙ x .before .if5 .left) (compared _ _ _ _ (x .same6 .ensures) z refl ∙ d .before .if6 .taken) _ _ _ (d .micros2 .ensures) (l .micros3 .ensures) (c .plus .ensures)
 
--- src/lib.rt:78:1
 returns-7 : tie.Need-returns-7
 returns-7 c = let x = c .before in
     let w = x .before .before in

@@ -4,23 +4,18 @@ use borrow.Author.Needs.{needs}
 use Rattle.lengths.proofs.shaped_length.Statement.{statement}
 use Rattle.lengths.proofs.shaped_length.Tie as tie
 
--- src/lib.rt:55:18
 steps-requires : tie.Need-steps-requires
 steps-requires c κs = search needs
 
--- src/lib.rt:55:9
 nanos-requires : tie.Need-nanos-requires
 nanos-requires c κs = search needs
 
--- src/lib.rt:56:5
 micros-requires : tie.Need-micros-requires
 micros-requires c κs = search needs
 
--- src/lib.rt:56:5
 plus-requires : tie.Need-plus-requires
 plus-requires c κs = search needs
 
--- src/lib.rt:44:1
 returns : tie.Need-returns
 returns c = let m = c .before in
     let p = m .before in

@@ -7,38 +7,30 @@ use borrow.Author.Needs.{needs}
 use Rattle.lengths.proofs.steps.Statement.{statement}
 use Rattle.lengths.proofs.steps.Tie as tie
 
--- src/lib.rt:35:9
 number-requires : tie.Need-number-requires
 number-requires c κs = search needs
 
--- src/lib.rt:36:8
 same-requires : tie.Need-same-requires
 same-requires c κs = search needs
 
--- src/lib.rt:37:62
 number-requires-2 : tie.Need-number-requires-2
 number-requires-2 c κs = search needs
 
--- src/lib.rt:37:13
 samples-of-requires : tie.Need-samples-of-requires
 samples-of-requires c κs = search needs
 
--- src/lib.rt:38:9
 returns : tie.Need-returns
 returns c = let b = c .before .number2 in
     let s = c .before .before .before in
     let a = s .before .number in
     steps-samples _ _ _ _ _ _ (a .ensures) (compared _ _ _ _ (s .same .ensures) (rd-at _ (a .ok)) refl ∙ c .before .before .if1 .taken) _ (rd-at _ (b .ok) ∙ b .ensures) _ (c .samples-of .ensures)
 
--- src/lib.rt:40:27
 samples-of-requires-2 : tie.Need-samples-of-requires-2
 samples-of-requires-2 c κs = search needs
 
--- src/lib.rt:40:17
 last-time-requires : tie.Need-last-time-requires
 last-time-requires c κs = search needs
 
--- src/lib.rt:32:1
 returns-2 : tie.Need-returns-2
 returns-2 c = let t = c .before in
     let s = t .before .before in

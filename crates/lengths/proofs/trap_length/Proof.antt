@@ -4,35 +4,27 @@ use borrow.Author.Needs.{needs}
 use Rattle.lengths.proofs.trap_length.Statement.{statement}
 use Rattle.lengths.proofs.trap_length.Tie as tie
 
--- src/lib.rt:63:17
 micros-requires : tie.Need-micros-requires
 micros-requires c κs = search needs
 
--- src/lib.rt:63:41
 micros-requires-2 : tie.Need-micros-requires-2
 micros-requires-2 c κs = search needs
 
--- src/lib.rt:63:9
 plus-requires : tie.Need-plus-requires
 plus-requires c κs = search needs
 
--- src/lib.rt:64:15
 micros-requires-3 : tie.Need-micros-requires-3
 micros-requires-3 c κs = search needs
 
--- src/lib.rt:64:39
 micros-requires-4 : tie.Need-micros-requires-4
 micros-requires-4 c κs = search needs
 
--- src/lib.rt:64:9
 plus-requires-2 : tie.Need-plus-requires-2
 plus-requires-2 c κs = search needs
 
--- src/lib.rt:65:5
 plus-requires-3 : tie.Need-plus-requires-3
 plus-requires-3 c κs = search needs
 
--- src/lib.rt:60:1
 returns : tie.Need-returns
 returns c = let e = c .before in
     let s = e .before .before .before in

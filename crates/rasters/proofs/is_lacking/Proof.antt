@@ -4,33 +4,26 @@ use borrow.Author.Needs.{needs}
 use Rattle.rasters.proofs.is_lacking.Statement.{statement}
 use Rattle.rasters.proofs.is_lacking.Tie as tie
 
--- src/lib.rt:54:9
 returns : tie.Need-returns
 returns c = lacks-gradient _ _ (c .if1 .taken)
 
--- src/lib.rt:57:9
 returns-2 : tie.Need-returns-2
 returns-2 c = lacks-rf _ _ (c .before .before .if1 .left) (c .if2 .taken)
 
--- src/lib.rt:60:25
 enum-told : tie.Need-enum-told
 enum-told c = search needs
 
--- src/lib.rt:62:16
 enum-told-2 : tie.Need-enum-told-2
 enum-told-2 c = search needs
 
--- src/lib.rt:63:17
 returns-3 : tie.Need-returns-3
 returns-3 c = let v = c .before .before in
     let f = v .before .before in
     lacks-adc _ _ (f .before .before .if1 .left) (f .if2 .left) (v .enum-told2 .given .1) (c .if3 .taken)
 
--- src/lib.rt:50:1
 returns-4 : tie.Need-returns-4
 returns-4 c = let f = c .before .before in lacks-none _ _ (f .before .before .if1 .left) (f .if2 .left) (c .enum-told .given .1)
 
--- src/lib.rt:50:1
 returns-5 : tie.Need-returns-5
 returns-5 c = let a = c .before in
     let v = a .before .before in

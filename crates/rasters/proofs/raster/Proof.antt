@@ -4,43 +4,34 @@ use borrow.Author.Needs.{needs}
 use Rattle.rasters.proofs.raster.Statement.{statement}
 use Rattle.rasters.proofs.raster.Tie as tie
 
--- src/lib.rt:14:11
 read-decimal-requires : tie.Need-read-decimal-requires
 read-decimal-requires c κs = search needs
 
--- src/lib.rt:15:23
 enum-known-d : tie.Need-enum-known-d
 enum-known-d c = search needs
 
--- src/lib.rt:15:35
 whole-worth-requires : tie.Need-whole-worth-requires
 whole-worth-requires c κs = search needs
 
--- src/lib.rt:16:28
 enum-known-ns : tie.Need-enum-known-ns
 enum-known-ns c = search needs
 
--- src/lib.rt:17:29
 enum-told : tie.Need-enum-told
 enum-told c = search needs
 
--- src/lib.rt:19:24
 enum-told-2 : tie.Need-enum-told-2
 enum-told-2 c = search needs
 
--- src/lib.rt:11:1
 returns : tie.Need-returns
 returns c = let w = c .before .before .before in
     let d = w .before .before in
     raster-good _ _ (d .before .before .read-decimal .ensures) _ (d .d .given .1) _ (w .whole-worth .ensures) _ (c .before .ns .given .1)
 
--- src/lib.rt:11:1
 returns-2 : tie.Need-returns-2
 returns-2 c = let w = c .before .before in
     let d = w .before .before in
     raster-bad _ _ (d .before .before .read-decimal .ensures) _ (d .d .given .1) _ (w .whole-worth .ensures) (c .enum-told .given .1)
 
--- src/lib.rt:11:1
 returns-3 : tie.Need-returns-3
 returns-3 c = raster-none _ _ (c .before .before .read-decimal .ensures) (c .enum-told2 .given .1)
 

@@ -6,55 +6,42 @@ use borrow.Author.Needs.{needs}
 use Rattle.rasters.proofs.rasters.Statement.{statement}
 use Rattle.rasters.proofs.rasters.Tie as tie
 
--- src/lib.rt:37:56
 slice-aggregate-text-of : tie.Need-slice-aggregate-text-of
 slice-aggregate-text-of c = search needs
 
--- src/lib.rt:37:27
 text-of-requires : tie.Need-text-of-requires
 text-of-requires c κs = search needs
 
--- src/lib.rt:37:9
 raster-requires : tie.Need-raster-requires
 raster-requires c κs = search needs
 
--- src/lib.rt:38:50
 slice-aggregate-text-of-2 : tie.Need-slice-aggregate-text-of-2
 slice-aggregate-text-of-2 c = search needs
 
--- src/lib.rt:38:21
 text-of-requires-2 : tie.Need-text-of-requires-2
 text-of-requires-2 c κs = search needs
 
--- src/lib.rt:38:9
 raster-requires-2 : tie.Need-raster-requires-2
 raster-requires-2 c κs = search needs
 
--- src/lib.rt:39:51
 slice-aggregate-text-of-3 : tie.Need-slice-aggregate-text-of-3
 slice-aggregate-text-of-3 c = search needs
 
--- src/lib.rt:39:22
 text-of-requires-3 : tie.Need-text-of-requires-3
 text-of-requires-3 c κs = search needs
 
--- src/lib.rt:39:9
 raster-requires-3 : tie.Need-raster-requires-3
 raster-requires-3 c κs = search needs
 
--- src/lib.rt:40:53
 slice-aggregate-text-of-4 : tie.Need-slice-aggregate-text-of-4
 slice-aggregate-text-of-4 c = search needs
 
--- src/lib.rt:40:24
 text-of-requires-4 : tie.Need-text-of-requires-4
 text-of-requires-4 c κs = search needs
 
--- src/lib.rt:40:9
 raster-requires-4 : tie.Need-raster-requires-4
 raster-requires-4 c κs = search needs
 
--- src/lib.rt:34:1
 returns : tie.Need-returns
 unfolding gradientKey rfKey adcKey blockKey
 returns c = let d = c .before in

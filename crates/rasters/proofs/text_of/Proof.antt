@@ -5,28 +5,22 @@ use borrow.Author.Needs.{needs}
 use Rattle.rasters.proofs.text_of.Statement.{statement}
 use Rattle.rasters.proofs.text_of.Tie as tie
 
--- src/lib.rt:28:25
 enum-told : tie.Need-enum-told
 enum-told c = search needs
 
--- src/lib.rt:28:25
 definition-requires : tie.Need-definition-requires
 definition-requires c κs = search needs
 
--- src/lib.rt:29:25
 enum-told-2 : tie.Need-enum-told-2
 enum-told-2 c = search needs
 
--- src/lib.rt:29:25
 file-definition-requires : tie.Need-file-definition-requires
 file-definition-requires c κs = search needs
 
--- src/lib.rt:24:1
 returns : tie.Need-returns
 unfolding textOf
 returns c = c .definition .ensures ∙ rw (c .before .enum-told .given .1)
 
--- src/lib.rt:24:1
 returns-2 : tie.Need-returns-2
 unfolding textOf
 returns-2 c = c .file-definition .ensures ∙ rw (c .before .enum-told2 .given .1)

@@ -11,36 +11,29 @@ use Rattle.references.proofs.extension_ref.Lts as lts
 use Rattle.signed.proofs.same.Reads as same-reads
 use Rattle.tables.proofs.met_number.Reads as met-number-reads
 
--- src/lib.rt:61:9
 met-number-requires : tie.Need-met-number-requires
 met-number-requires c κs = search needs
 
--- src/lib.rt:62:8
 same-requires : tie.Need-same-requires
 same-requires c κs = search needs
 
--- src/lib.rt:63:9
 returns : tie.Need-returns
 returns c = let s = c .before in
     let m = s .before in
     code-trigger _ _ _ _ (rd-is (m .before .fits .number)) _ (m .met-number .ensures) (compared _ _ _ _ (s .same .ensures) (rd-at _ (m .met-number .ok)) refl ∙ c .if1 .taken)
 
--- src/lib.rt:65:8
 same-requires-2 : tie.Need-same-requires-2
 same-requires-2 c κs = search needs
 
--- src/lib.rt:66:9
 returns-2 : tie.Need-returns-2
 returns-2 c = let t = c .before in
     let s = t .before .before in
     let m = s .before in
     code-set _ _ _ _ (rd-is (m .before .fits .number)) _ (m .met-number .ensures) (compared _ _ _ _ (s .same .ensures) (rd-at _ (m .met-number .ok)) refl ∙ t .before .if1 .left) (compared _ _ _ _ (t .same2 .ensures) (rd-at _ (m .met-number .ok)) refl ∙ c .if2 .taken)
 
--- src/lib.rt:68:8
 same-requires-3 : tie.Need-same-requires-3
 same-requires-3 c κs = search needs
 
--- src/lib.rt:69:9
 returns-3 : tie.Need-returns-3
 returns-3 c = let u = c .before in
     let t = u .before .before in
@@ -48,7 +41,6 @@ returns-3 c = let u = c .before in
     let m = s .before in
     code-increment _ _ _ _ (rd-is (m .before .fits .number)) _ (m .met-number .ensures) (compared _ _ _ _ (s .same .ensures) (rd-at _ (m .met-number .ok)) refl ∙ t .before .if1 .left) (compared _ _ _ _ (t .same2 .ensures) (rd-at _ (m .met-number .ok)) refl ∙ u .before .if2 .left) (compared _ _ _ _ (u .same3 .ensures) (rd-at _ (m .met-number .ok)) refl ∙ c .if3 .taken)
 
--- src/lib.rt:58:1
 returns-4 : tie.Need-returns-4
 returns-4 c = let u = c .before in
     let t = u .before .before in

@@ -5,24 +5,19 @@ use borrow.Author.Needs.{needs}
 use Rattle.rules.proofs.breaks_align.Statement.{statement}
 use Rattle.rules.proofs.breaks_align.Tie as tie
 
--- src/lib.rt:40:25
 enum-told : tie.Need-enum-told
 enum-told c = search needs
 
--- src/lib.rt:41:25
 enum-told-2 : tie.Need-enum-told-2
 enum-told-2 c = search needs
 
--- src/lib.rt:41:25
 misaligned-requires : tie.Need-misaligned-requires
 misaligned-requires c κs = search needs
 
--- src/lib.rt:36:1
 returns : tie.Need-returns
 unfolding alignBroken
 returns c = rw (c .enum-told .given .1)
 
--- src/lib.rt:36:1
 returns-2 : tie.Need-returns-2
 unfolding alignBroken
 returns-2 c = c .misaligned .ensures ∙ rw (c .before .enum-told2 .given .1)

@@ -5,24 +5,19 @@ use borrow.Author.Needs.{needs}
 use Rattle.rules.proofs.breaks_outlasts.Statement.{statement}
 use Rattle.rules.proofs.breaks_outlasts.Tie as tie
 
--- src/lib.rt:57:25
 enum-told : tie.Need-enum-told
 enum-told c = search needs
 
--- src/lib.rt:58:25
 enum-told-2 : tie.Need-enum-told-2
 enum-told-2 c = search needs
 
--- src/lib.rt:58:25
 outlasts-requires : tie.Need-outlasts-requires
 outlasts-requires c κs = search needs
 
--- src/lib.rt:46:1
 returns : tie.Need-returns
 unfolding outlastsBroken
 returns c = rw (c .enum-told .given .1)
 
--- src/lib.rt:46:1
 returns-2 : tie.Need-returns-2
 unfolding outlastsBroken
 returns-2 c = c .outlasts .ensures ∙ rw (c .before .enum-told2 .given .1)

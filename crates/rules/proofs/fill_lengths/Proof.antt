@@ -12,33 +12,26 @@ Inv-loop edition rasters rows₀ n samples k₀ rows k = Filling edition rasters
 abbrev μ-loop : tie.MeasureT-loop
 μ-loop edition rasters rows₀ n samples k₀ rows k = n - k
 
--- src/lib.rt:151:5
 loop-holds : tie.Need-loop-holds Inv-loop μ-loop
 loop-holds c = fill-start _ _ _ _ _
 
--- src/lib.rt:152:9
 fill-row-requires : tie.Need-fill-row-requires Inv-loop μ-loop
 fill-row-requires c κs = search needs
 
--- src/lib.rt:153:9
 add-k : tie.Need-add-k Inv-loop μ-loop
 add-k c = search needs
 
--- src/lib.rt:151:5
 loop-less : tie.Need-loop-less Inv-loop μ-loop
 loop-less c = omega arith
 
--- src/lib.rt:151:5
 loop-again : tie.Need-loop-again Inv-loop μ-loop
 loop-again c = let r = c .before in
     let l = r .before .before in
     fill-turn _ _ _ _ _ _ _ _ (l .before .loop .inv) (l .loop-test .taken) (r .fill-row .ensures)
 
--- src/lib.rt:141:1
 same-length : tie.Need-same-length Inv-loop μ-loop
 same-length c = c .before .loop .inv .long
 
--- src/lib.rt:141:1
 returns : tie.Need-returns Inv-loop μ-loop
 returns c = fill-end _ _ _ _ _ _ _ (c .before .loop .inv) (c .loop-test .left)
 

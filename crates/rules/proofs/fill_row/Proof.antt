@@ -7,56 +7,44 @@ use borrow.Author.Needs.{needs}
 use Rattle.rules.proofs.fill_row.Statement.{statement}
 use Rattle.rules.proofs.fill_row.Tie as tie
 
--- src/lib.rt:132:25
 number-requires : tie.Need-number-requires
 number-requires c κs = search needs
 
--- src/lib.rt:132:12
 same-requires : tie.Need-same-requires
 same-requires c κs = search needs
 
--- src/lib.rt:133:17
 length-number-requires : tie.Need-length-number-requires
 length-number-requires c κs = search needs
 
--- src/lib.rt:134:21
 mul-i : tie.Need-mul-i
 mul-i c = search needs
 
--- src/lib.rt:134:21
 add-i : tie.Need-add-i
 add-i c = search needs
 
--- src/lib.rt:135:13
 mul-ns : tie.Need-mul-ns
 mul-ns c = search needs
 
--- src/lib.rt:135:13
 slice-set-from-ns : tie.Need-slice-set-from-ns
 slice-set-from-ns c = search needs
 
--- src/lib.rt:121:1
 same-length : tie.Need-same-length
 same-length c = search needs
 
--- src/lib.rt:121:1
 returns : tie.Need-returns
 returns c = let t = c .before .before in
     let s = t .before in
     let m = s .before .number in
     row-block _ _ _ _ _ _ _ _ (m .ensures) (s .before .before .before .if1 .taken) (compared _ _ _ _ (s .same .ensures) (rd-at _ (m .ok)) refl ∙ t .if2 .taken) _ (rd-at _ (c .length-number .ok) ∙ c .length-number .ensures)
 
--- src/lib.rt:121:1
 same-length-2 : tie.Need-same-length-2
 same-length-2 c = search needs
 
--- src/lib.rt:121:1
 returns-2 : tie.Need-returns-2
 returns-2 c = let s = c .before in
     let m = s .before .number in
     row-other _ _ _ _ _ _ _ _ (m .ensures) (compared _ _ _ _ (s .same .ensures) (rd-at _ (m .ok)) refl ∙ c .if2 .left)
 
--- src/lib.rt:121:1
 returns-3 : tie.Need-returns-3
 returns-3 c = row-past _ _ _ _ _ _ _ (c .if1 .left)
 

@@ -15,32 +15,25 @@ Inv-loop rule edition rasters rows n samples k₀ k = (k ≤ n) × (firstSuch (i
 abbrev μ-loop : tie.MeasureT-loop
 μ-loop rule edition rasters rows n samples k₀ k = n - k
 
--- src/lib.rt:96:5
 loop-holds : tie.Need-loop-holds Inv-loop μ-loop
 unfolding firstBroken
 loop-holds c = (omega arith, such-start _ _)
 
--- src/lib.rt:97:12
 is-broken-requires : tie.Need-is-broken-requires Inv-loop μ-loop
 is-broken-requires c κs = search needs
 
--- src/lib.rt:98:13
 returns : tie.Need-returns Inv-loop μ-loop
 returns c = such-here _ _ _ (c .before .before .loop-test .taken) (sym (c .before .is-broken .ensures) ∙ c .if1 .taken) ∙ c .before .before .before .loop .inv .1
 
--- src/lib.rt:100:9
 add-k : tie.Need-add-k Inv-loop μ-loop
 add-k c = search needs
 
--- src/lib.rt:96:5
 loop-less : tie.Need-loop-less Inv-loop μ-loop
 loop-less c = omega (arith, c .before .before .loop-test .taken)
 
--- src/lib.rt:96:5
 loop-again : tie.Need-loop-again Inv-loop μ-loop
 loop-again c = (omega (arith, c .before .before .loop-test .taken), such-further _ _ _ (c .before .before .loop-test .taken) (sym (c .before .is-broken .ensures) ∙ c .if1 .left) ∙ c .before .before .before .loop .inv .1)
 
--- src/lib.rt:85:1
 returns-2 : tie.Need-returns-2 Inv-loop μ-loop
 returns-2 c = such-none _ _ _ (c .before .loop .inv .0) (c .loop-test .left) ∙ c .before .loop .inv .1
 

@@ -5,80 +5,62 @@ use borrow.Author.Needs.{needs}
 use Rattle.rules.proofs.is_broken.Statement.{statement}
 use Rattle.rules.proofs.is_broken.Tie as tie
 
--- src/lib.rt:75:28
 enum-told : tie.Need-enum-told
 enum-told c = search needs
 
--- src/lib.rt:75:28
 dangles-requires : tie.Need-dangles-requires
 dangles-requires c κs = search needs
 
--- src/lib.rt:76:23
 enum-told-2 : tie.Need-enum-told-2
 enum-told-2 c = search needs
 
--- src/lib.rt:76:23
 loops-requires : tie.Need-loops-requires
 loops-requires c κs = search needs
 
--- src/lib.rt:77:22
 enum-told-3 : tie.Need-enum-told-3
 enum-told-3 c = search needs
 
--- src/lib.rt:77:22
 misfits-requires : tie.Need-misfits-requires
 misfits-requires c κs = search needs
 
--- src/lib.rt:78:24
 enum-told-4 : tie.Need-enum-told-4
 enum-told-4 c = search needs
 
--- src/lib.rt:78:24
 breaks-align-requires : tie.Need-breaks-align-requires
 breaks-align-requires c κs = search needs
 
--- src/lib.rt:79:23
 enum-told-5 : tie.Need-enum-told-5
 enum-told-5 c = search needs
 
--- src/lib.rt:79:23
 is-long-requires : tie.Need-is-long-requires
 is-long-requires c κs = search needs
 
--- src/lib.rt:80:27
 enum-told-6 : tie.Need-enum-told-6
 enum-told-6 c = search needs
 
--- src/lib.rt:80:27
 breaks-outlasts-requires : tie.Need-breaks-outlasts-requires
 breaks-outlasts-requires c κs = search needs
 
--- src/lib.rt:63:1
 returns : tie.Need-returns
 unfolding isBroken
 returns c = c .dangles .ensures ∙ rw (c .before .enum-told .given .1)
 
--- src/lib.rt:63:1
 returns-2 : tie.Need-returns-2
 unfolding isBroken
 returns-2 c = c .loops .ensures ∙ rw (c .before .enum-told2 .given .1)
 
--- src/lib.rt:63:1
 returns-3 : tie.Need-returns-3
 unfolding isBroken
 returns-3 c = c .misfits .ensures ∙ rw (c .before .enum-told3 .given .1)
 
--- src/lib.rt:63:1
 returns-4 : tie.Need-returns-4
 unfolding isBroken
 returns-4 c = c .breaks-align .ensures ∙ rw (c .before .enum-told4 .given .1)
 
--- src/lib.rt:63:1
 returns-5 : tie.Need-returns-5
 unfolding isBroken
 returns-5 c = c .is-long .ensures ∙ rw (c .before .enum-told5 .given .1)
 
--- src/lib.rt:63:1
 returns-6 : tie.Need-returns-6
 unfolding isBroken
 returns-6 c = c .breaks-outlasts .ensures ∙ rw (c .before .enum-told6 .given .1)

@@ -6,15 +6,12 @@ use borrow.Author.Needs.{needs}
 use Rattle.rules.proofs.length_number.Statement.{statement}
 use Rattle.rules.proofs.length_number.Tie as tie
 
--- src/lib.rt:116:9
 block-length-requires : tie.Need-block-length-requires
 block-length-requires c κs = search needs
 
--- src/lib.rt:117:5
 with-sign-requires : tie.Need-with-sign-requires
 with-sign-requires c κs = search needs
 
--- src/lib.rt:106:1
 returns : tie.Need-returns
 returns c = rd-at _ (c .with-sign .ok) ∙ length-number _ _ _ _ _ _ _ _ (c .before .block-length .ensures) (c .with-sign .ensures)
 

@@ -7,21 +7,17 @@ use borrow.Author.Needs.{needs}
 use Rattle.tables.proofs.met_number.Statement.{statement}
 use Rattle.tables.proofs.met_number.Tie as tie
 
--- src/lib.rt:132:9
 met-row-requires : tie.Need-met-row-requires
 met-row-requires c κs = search needs
 
--- src/lib.rt:134:9
 number-requires : tie.Need-number-requires
 number-requires c κs = search needs
 
--- src/lib.rt:134:9
 returns : tie.Need-returns
 returns c = let m = c .before .before in
     let a = m .before .fits in
     rd-at _ (c .number .ok) ∙ c .number .ensures ∙ number-met _ _ (rd-is (a .class)) (rd-is (a .id)) _ (m .met-row .ensures) _ (c .before .if1 .taken)
 
--- src/lib.rt:129:1
 returns-2 : tie.Need-returns-2
 returns-2 c = let m = c .before in
     let a = m .before .fits in

@@ -6,19 +6,15 @@ use borrow.Author.Needs.{needs}
 use Rattle.tables.proofs.met_row.Statement.{statement}
 use Rattle.tables.proofs.met_row.Tie as tie
 
--- src/lib.rt:122:8
 same-requires : tie.Need-same-requires
 same-requires c κs = search needs
 
--- src/lib.rt:123:9
 returns : tie.Need-returns
 returns c = let s = c .before in met-none _ _ (rd-is (s .before .fits .class)) (rd-is (s .before .fits .id)) (sym (s .same .ensures) ∙ c .if1 .taken)
 
--- src/lib.rt:125:5
 find-requires : tie.Need-find-requires
 find-requires c κs = search needs
 
--- src/lib.rt:119:1
 returns-2 : tie.Need-returns-2
 returns-2 c = let s = c .before .before in c .find .ensures ∙ met-found _ _ (rd-is (s .before .fits .class)) (rd-is (s .before .fits .id)) (sym (s .same .ensures) ∙ c .before .if1 .left)
 

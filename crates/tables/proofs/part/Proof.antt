@@ -5,59 +5,45 @@ use borrow.Author.Needs.{needs}
 use Rattle.tables.proofs.part.Statement.{statement}
 use Rattle.tables.proofs.part.Tie as tie
 
--- src/lib.rt:144:9
 slice-aggregate-result : tie.Need-slice-aggregate-result
 slice-aggregate-result c = search needs
 
--- src/lib.rt:144:9
 returns : tie.Need-returns
 returns c = let a = c .before .before .args in part-none (a .samples .now) (a .from) (a .count) (omega arith)
 
--- src/lib.rt:146:8
 sub-if2 : tie.Need-sub-if2
 sub-if2 c = search needs
 
--- src/lib.rt:147:16
 mul-result : tie.Need-mul-result
 mul-result c = search needs
 
--- src/lib.rt:147:16
 sub-result : tie.Need-sub-result
 sub-result c = search needs
 
--- src/lib.rt:147:16
 part-result-start : tie.Need-part-result-start
 part-result-start c = search needs
 
--- src/lib.rt:147:16
 part-result-end : tie.Need-part-result-end
 part-result-end c = search needs
 
--- src/lib.rt:147:9
 returns-2 : tie.Need-returns-2
 returns-2 c = let a = c .before .before .before .args in part-rest (a .samples .now) (a .from) (a .count) (omega arith)
 
--- src/lib.rt:149:15
 add-end : tie.Need-add-end
 add-end c = search needs
 
--- src/lib.rt:150:5
 mul-result-2 : tie.Need-mul-result-2
 mul-result-2 c = search needs
 
--- src/lib.rt:150:5
 sub-result-2 : tie.Need-sub-result-2
 sub-result-2 c = search needs
 
--- src/lib.rt:150:5
 part-result-start-2 : tie.Need-part-result-start-2
 part-result-start-2 c = search needs
 
--- src/lib.rt:150:5
 part-result-end-2 : tie.Need-part-result-end-2
 part-result-end-2 c = search needs
 
--- src/lib.rt:140:1
 returns-3 : tie.Need-returns-3
 returns-3 c = let a = c .before .before .before .args in part-inside (a .samples .now) (a .from) (a .count)
 

@@ -8,27 +8,21 @@ use borrow.Author.Needs.{needs}
 use Rattle.tables.proofs.samples_of.Statement.{statement}
 use Rattle.tables.proofs.samples_of.Tie as tie
 
--- src/lib.rt:157:30
 met-number-requires : tie.Need-met-number-requires
 met-number-requires c κs = search needs
 
--- src/lib.rt:157:17
 size-requires : tie.Need-size-requires
 size-requires c κs = search needs
 
--- src/lib.rt:158:29
 met-number-requires-2 : tie.Need-met-number-requires-2
 met-number-requires-2 c κs = search needs
 
--- src/lib.rt:158:16
 size-requires-2 : tie.Need-size-requires-2
 size-requires-2 c κs = search needs
 
--- src/lib.rt:159:5
 part-requires : tie.Need-part-requires
 part-requires c κs = search needs
 
--- src/lib.rt:154:1
 returns : tie.Need-returns
 returns c = let f = c .before in
     let s = f .before .before in
