@@ -1,3 +1,4 @@
 -- The laws of the rules.
 pub mod Alike
 pub mod Filling
+pub mod First
