@@ -18,9 +18,9 @@ use Rattle.grammar.specs.declared.Found.the-variants.{Nothing, Row, Definition,
 use Rattle.grammar.specs.Steps.{fresh, stepOf}
 use Rattle.grammar.specs.declared.State.{State}
 use Rattle.grammar.specs.declared.Stepped.{Stepped}
-use Rattle.file.specs.Whole.{isFault, isRow}
+use Rattle.file.specs.Whole.{isFault, isRow, rowCount}
 use Rattle.file.specs.Rows.{Placed, rowAt, rowsFrom, rowsOf, lineOf, laidRow, laidRows}
-use Rattle.file.specs.Inside.{rowCount, Laid}
+use Rattle.file.specs.Inside.{Laid}
 use Rattle.file.proofs.Walking.{Within, within-start, within-turn, gathered-turn, gathered-stop, gathered-end}
 
 -- ---- a row over a table

@@ -42,6 +42,13 @@ isRow Row = true
 isRow Definition = false
 isRow (FoundFault fault) = false
 
+-- how many rows a line gives
+abbrev pub rowCount : Found → ℕ
+rowCount Nothing = 0
+rowCount Row = 1
+rowCount Definition = 0
+rowCount (FoundFault fault) = 0
+
 unfoldable pub isDefined : Found → Bool
 isDefined Nothing = false
 isDefined Row = false

@@ -2,4 +2,3 @@
 pub mod Sections
 pub mod Definitions
 pub mod Steps
-pub mod Ranges
