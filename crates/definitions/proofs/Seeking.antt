@@ -16,13 +16,14 @@ use Rattle.text.specs.declared.Mark.{Mark}
 use Rattle.text.specs.declared.Mark.the-variants.{Blank, Comment, Section, Plain}
 use Rattle.text.proofs.Cut.{LineAt}
 use Rattle.grammar.specs.Definitions.{keyOf, valueOf, isDefinition}
-use Rattle.grammar.specs.Steps.{fresh, stepOf}
-use Rattle.grammar.specs.declared.Fault.{Fault}
-use Rattle.grammar.specs.declared.Fault.the-variants.{Line as LineFault, Field as FieldFault}
-use Rattle.grammar.specs.declared.Found.{Found}
-use Rattle.grammar.specs.declared.Found.the-variants.{Nothing, Row, Definition as FoundDefinition, Fault as FoundFault}
-use Rattle.grammar.specs.declared.State.{State}
-use Rattle.grammar.specs.declared.Stepped.{Stepped}
+use Rattle.places.specs.Places.{fresh}
+use Rattle.grammar.specs.Steps.{stepOf}
+use Rattle.places.specs.declared.Fault.{Fault}
+use Rattle.places.specs.declared.Fault.the-variants.{Line as LineFault, Field as FieldFault}
+use Rattle.places.specs.declared.Found.{Found}
+use Rattle.places.specs.declared.Found.the-variants.{Nothing, Row, Definition as FoundDefinition, Fault as FoundFault}
+use Rattle.places.specs.declared.State.{State}
+use Rattle.places.specs.declared.Stepped.{Stepped}
 use Rattle.file.specs.Whole.{isFault, isDefined}
 use Rattle.definitions.specs.Definitions.{Definition, definitionAt, definitionsFrom, definitionsOf, siteMark, siteLine, siteAt, siteIn, siteDefinitions, anyFault, isNamed, repeats, siteFault, sought, eitherOf}
 use Rattle.file.proofs.Walking.{Within, within-start, within-turn, gathered-turn, gathered-stop, gathered-end}

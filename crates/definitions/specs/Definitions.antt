@@ -11,12 +11,12 @@ use Rattle.text.specs.Words.{sameBytes}
 use Rattle.text.specs.declared.Mark.{Mark}
 use Rattle.text.specs.declared.Mark.the-variants.{Blank, Comment, Section, Plain}
 use Rattle.grammar.specs.Definitions.{keyOf, valueOf, isDefinition}
-use Rattle.grammar.specs.Steps.{fresh}
-use Rattle.grammar.specs.declared.Fault.the-variants.{Line as LineFault, Section as SectionFault, Field as FieldFault}
-use Rattle.grammar.specs.declared.Found.{Found}
-use Rattle.grammar.specs.declared.Found.the-variants.{Nothing, Definition as FoundDefinition, Fault as FoundFault}
-use Rattle.grammar.specs.declared.State.{State}
-use Rattle.grammar.specs.declared.Stepped.{Stepped}
+use Rattle.places.specs.Places.{fresh}
+use Rattle.places.specs.declared.Fault.the-variants.{Line as LineFault, Section as SectionFault, Field as FieldFault}
+use Rattle.places.specs.declared.Found.{Found}
+use Rattle.places.specs.declared.Found.the-variants.{Nothing, Definition as FoundDefinition, Fault as FoundFault}
+use Rattle.places.specs.declared.State.{State}
+use Rattle.places.specs.declared.Stepped.{Stepped}
 use Rattle.file.specs.Whole.{isFault, isDefined, gathered}
 
 -- ---- A definition, with its line

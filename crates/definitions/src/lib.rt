@@ -5,8 +5,8 @@ ghost use Rattle.text.specs.Words.{sameBytes};
 ghost use Rattle.grammar.specs.Definitions.{keyOf};
 ghost use Rattle.file.specs.Whole.{isDefined};
 ghost use Rattle.definitions.specs.Definitions.{definitionsOf, siteLine, siteDefinitions, siteFault, isNamed, sought, definitionOf};
-use grammar::Fault;
-use grammar::Found;
+use places::Fault;
+use places::Found;
 use text::Mark;
 
 // Is this a definition?
@@ -35,7 +35,7 @@ fn defines(line: &[u8], found: Found, key: &[u8]) -> bool
 pub fn file_definition<'a>(file: &'a [u8], key: &[u8]) -> &'a [u8]
     ensures { λ r. ⌜ now r ≡ sought (now (key .entry)) (definitionsOf (now (file .entry))) ⌝ }
 {
-    let mut st = grammar::start();
+    let mut st = places::start();
     let mut at: usize = 0;
     let mut n: usize = 1;
     while at < file.len() {

@@ -4,10 +4,10 @@ ghost use mathlib.Core.List.{[]};
 ghost use Rattle.file.specs.Whole.{judged, ended, isFault, rowCount};
 ghost use Rattle.file.specs.Rows.{rowAt, rowsOf, lineOf, laidRow, answerOf, Scanning};
 ghost use Rattle.file.specs.Inside.{Laid};
-use grammar::Fault;
-use grammar::Found;
-use grammar::State;
-use grammar::Stepped;
+use places::Fault;
+use places::Found;
+use places::State;
+use places::Stepped;
 use shape::Edition;
 
 // What reading all lines answers: the edition, how many rows and samples there are, and whether `[DEFINITIONS]` stands in the file; or the first
@@ -106,7 +106,7 @@ fn lay_found(rows: &mut [i64], k: usize, did: Stepped) -> usize
 pub fn scan(file: &[u8], rows: &mut [i64]) -> Scanned
     ensures { λ r. ⌜ Scanning (now (file .entry)) r (now (rows .entry)) (now (rows .exit)) ⌝ }
 {
-    let mut st = grammar::start();
+    let mut st = places::start();
     let mut at: usize = 0;
     let mut n: usize = 1;
     let mut used: usize = 0;
@@ -124,7 +124,7 @@ pub fn scan(file: &[u8], rows: &mut [i64]) -> Scanned
         let next = did.next;
         st = next;
     }
-    let found = grammar::ending(st);
+    let found = places::ending(st);
     answer(found, 0, st, used)
 }
 
@@ -132,7 +132,7 @@ pub fn scan(file: &[u8], rows: &mut [i64]) -> Scanned
 pub fn row_line(file: &[u8], k: usize) -> usize
     ensures { λ r. ⌜ r ≡ lineOf (rowsOf (now (file .entry))) k ⌝ }
 {
-    let mut st = grammar::start();
+    let mut st = places::start();
     let mut at: usize = 0;
     let mut n: usize = 1;
     let mut left = k;

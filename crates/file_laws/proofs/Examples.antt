@@ -13,9 +13,12 @@ use Rattle.numeral.specs.Integer.{inRange, isInteger, integerOf}
 use Rattle.columns.specs.Columns.{columnsOf}
 use Rattle.columns.specs.Rows.{naturalCell, integerCell, cellOf, with, rowFrom, padded, rowIs}
 use Rattle.heads.specs.Heads.{wordNumberOf}
-use Rattle.grammar.specs.Sections.{sectionNames, sectionNo, hasSection, placeIn}
-use Rattle.grammar.specs.Steps.{fresh, mayEnter, enterOf, sectionAt, sectionStep, majorWord, minorWord, revisionWord, versionRow, editionOf, minorRow, versionStep, givenRow, rowStep, linesStep, plainStep, markedStep, stepOf}
-use Rattle.grammar.specs.declared.Fault.the-variants.{Version as VersionFault, Section as SectionFault}
+use Rattle.sections.specs.Sections.{sectionNames, sectionNo, hasSection, placeIn}
+use Rattle.places.specs.Places.{fresh}
+use Rattle.sections.specs.Entering.{mayEnter, enterOf, sectionAt, sectionStep}
+use Rattle.sections.specs.Version.{majorWord, minorWord, revisionWord, versionRow, editionOf, minorRow, versionStep}
+use Rattle.grammar.specs.Steps.{givenRow, rowStep, linesStep, plainStep, markedStep, stepOf}
+use Rattle.places.specs.declared.Fault.the-variants.{Version as VersionFault, Section as SectionFault}
 use Rattle.file.specs.Whole.{stopped, judged, verdictFrom, verdictOf, isFault, isRow, gathered}
 use Rattle.file.specs.Rows.{rowAt, rowsFrom}
 

@@ -8,13 +8,14 @@ use lib.Dec.{eqb}
 use lib.ListN.{length}
 use Rattle.text.specs.Lines.{startsLF, onto, linesOf}
 use Rattle.shape.specs.declared.Edition.{Edition}
-use Rattle.grammar.specs.Steps.{fresh, endingOf, stepOf}
+use Rattle.places.specs.Places.{fresh, endingOf}
+use Rattle.grammar.specs.Steps.{stepOf}
 use Rattle.file_laws.specs.Ranges.{isPast, AllIn, no-rows, one-more}
-use Rattle.grammar.specs.declared.Fault.{Fault}
-use Rattle.grammar.specs.declared.Found.{Found}
-use Rattle.grammar.specs.declared.Found.the-variants.{Nothing, Row, Definition, Fault as FoundFault}
-use Rattle.grammar.specs.declared.State.{State}
-use Rattle.grammar.specs.declared.Stepped.{Stepped}
+use Rattle.places.specs.declared.Fault.{Fault}
+use Rattle.places.specs.declared.Found.{Found}
+use Rattle.places.specs.declared.Found.the-variants.{Nothing, Row, Definition, Fault as FoundFault}
+use Rattle.places.specs.declared.State.{State}
+use Rattle.places.specs.declared.Stepped.{Stepped}
 use Rattle.file_laws.proofs.Steps.{HeadIn, Fine, step-fine}
 use Rattle.file.specs.Whole.{Verdict, ended, stopped, judged, verdictFrom, verdictOf, isFault, isRow, gathered}
 use Rattle.file.specs.Rows.{Placed, rowAt, rowsFrom, rowsOf}

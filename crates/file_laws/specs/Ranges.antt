@@ -11,8 +11,8 @@ use Rattle.columns.specs.Rows.{padded}
 use Rattle.columns.specs.Ranges.{InRange}
 use Rattle.columns.specs.declared.Form.{Form}
 use Rattle.columns.specs.declared.Kind.the-variants.{Count}
-use Rattle.grammar.specs.declared.Place.{Place}
-use Rattle.grammar.specs.declared.Place.the-variants.{Start, Version, Section, Extensions, Head, Values, Signature}
+use Rattle.places.specs.declared.Place.{Place}
+use Rattle.places.specs.declared.Place.the-variants.{Start, Version, Section, Extensions, Head, Values, Signature}
 use Rattle.file.specs.Rows.{Placed}
 
 -- ---- All eleven kinds, twelve numbers each: those read by their columns; "8 extension", "10 label" and "11 shape"

@@ -4,10 +4,10 @@
 ghost use Prim.Native.Nat.{_≤_};
 ghost use lib.ListN.{length};
 use file::Scanned;
-use grammar::Fault;
 use libc::STDIN_FILENO;
 use libc::STDOUT_FILENO;
 use numeral::Natural;
+use places::Fault;
 use shape::Edition;
 
 // Hands a text to standard output.

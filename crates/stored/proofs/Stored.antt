@@ -14,10 +14,11 @@ use Rattle.text.specs.Marks.{markOf}
 use Rattle.text.specs.declared.Line.{Line}
 use Rattle.text.proofs.Cut.{LineAt, WholeAt}
 use Rattle.signed.specs.Signed.{sameZ}
-use Rattle.grammar.specs.Steps.{fresh, stepOf}
-use Rattle.grammar.specs.declared.Found.{Found}
-use Rattle.grammar.specs.declared.State.{State}
-use Rattle.grammar.specs.declared.Stepped.{Stepped}
+use Rattle.places.specs.Places.{fresh}
+use Rattle.grammar.specs.Steps.{stepOf}
+use Rattle.places.specs.declared.Found.{Found}
+use Rattle.places.specs.declared.State.{State}
+use Rattle.places.specs.declared.Stepped.{Stepped}
 use Rattle.file.specs.Whole.{isFault, isRow, rowCount}
 use Rattle.stored.specs.Shapes.{endsShape, valuesText, isShape, storedFrom, storedOf}
 use Rattle.file.proofs.Laying.{row-one, row-none, count-most}

@@ -10,9 +10,10 @@ use Rattle.text.specs.declared.Mark.{Mark}
 use Rattle.text.specs.declared.Mark.the-variants.{Blank, Comment, Section, Plain}
 use Rattle.signed.specs.Signed.{sameZ}
 use Rattle.columns.specs.Columns.{shapeKind}
-use Rattle.grammar.specs.Steps.{fresh, stepOf}
-use Rattle.grammar.specs.declared.State.{State}
-use Rattle.grammar.specs.declared.Stepped.{Stepped}
+use Rattle.places.specs.Places.{fresh}
+use Rattle.grammar.specs.Steps.{stepOf}
+use Rattle.places.specs.declared.State.{State}
+use Rattle.places.specs.declared.Stepped.{Stepped}
 use Rattle.file.specs.Whole.{isFault, isRow}
 
 -- ---- "to a blank line, a section or the end"

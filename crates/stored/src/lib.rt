@@ -5,7 +5,7 @@ ghost use lib.ListN.{length, drop};
 ghost use Rattle.text.specs.Lines.{wholeLinesOf};
 ghost use Rattle.text.specs.Marks.{markOf};
 ghost use Rattle.stored.specs.Shapes.{endsShape, valuesText, isShape, storedOf};
-use grammar::Stepped;
+use places::Stepped;
 use text::Mark;
 
 // Does this line end a shape's stored lines?
@@ -56,7 +56,7 @@ fn is_shape(did: Stepped, id: i64) -> bool
 pub fn stored_lines(file: &[u8], id: i64) -> &[u8]
     ensures { λ r. ⌜ now r ≡ storedOf (now (file .entry)) id ⌝ }
 {
-    let mut st = grammar::start();
+    let mut st = places::start();
     let mut at: usize = 0;
     let mut n: usize = 1;
     while at < file.len() {
