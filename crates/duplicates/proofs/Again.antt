@@ -17,7 +17,7 @@ use Rattle.tables.specs.Tables.{firstSuch, isAgain, firstAgain}
 use Rattle.tables.proofs.Found.{first-is}
 use Rattle.duplicates.specs.declared.Sort.{Sort}
 use Rattle.duplicates.specs.declared.Sort.the-variants.{Key, Name}
-use Rattle.duplicates.specs.Words.{Word, wordsOf, sortNumber, isSame, nextLine, earlier, againLine, rowAgain, duplicateLine}
+use Rattle.duplicates.specs.Words.{Word, wordsOf, sortNumber, isSame, nextLine, earlier, againLine, rowAgainLine, duplicateLine}
 use Rattle.duplicates.specs.Again.{FirstLine, wordNo, WordAgain, RowAgain, Duplicate, by-row, by-word}
 use Rattle.duplicates.proofs.Lines.{EarlierIs, earlier-is}
 use Rattle.duplicates.proofs.Rising.{Rising, no-more, one-more, wordLine, words-low, words-rise, rows-low, rows-ordered, rows-rise}
@@ -139,7 +139,7 @@ again-of p (one-more {x = w} {xs = ws} l r) = first-as (join w ws) (part w ws) (
 pub again-is : (file : List ℕ) → FirstLine (WordAgain (wordsOf file)) (againLine (wordsOf file))
 again-is file = again-of (omega arith) (words-rise file)
 
--- ---- the rows of the file, n of them
+-- ---- the first n rows of a file, no more than it has
 module _ (file : List ℕ) (rows : List ℤ) (n : ℕ) (m : n ≤ length (rowsOf file)) where
   -- no row before the first is met again
   not-before : (l : ℕ) (x : RowAgain file rows n l) → firstAgain rows n ≤ x .k
@@ -152,8 +152,8 @@ module _ (file : List ℕ) (rows : List ℤ) (n : ℕ) (m : n ≤ length (rowsOf
   unfolding firstAgain
   is-again h = first-is (isAgain rows) 0 n .here (omega arith)
 
-  row-is : FirstLine (RowAgain file rows n) (rowAgain file rows n)
-  unfolding rowAgain
+  row-is : FirstLine (RowAgain file rows n) (rowAgainLine file rows n)
+  unfolding rowAgainLine
   row-is = go (lt-or-ge (firstAgain rows n) n)
     where
       go : (firstAgain rows n < n) ⊎ (n ≤ firstAgain rows n)
@@ -168,7 +168,7 @@ module _ (file : List ℕ) (rows : List ℤ) (n : ℕ) (m : n ≤ length (rowsOf
           })
       go (inr h) = rw (le-ltb (firstAgain rows n) n h) (first-none (λ l x. let t = x .there in let y = not-before l x in absurd (omega arith)))
 
-  -- DUPLICATE: `duplicateLine` is the first line of a file where an ID, type, name or key is met again, 0 if none is
+  -- ---- DUPLICATE: `duplicateLine` is the first line of a file where an ID or type of its first n rows, a name or a key is met again, 0 if none is
   pub duplicate-is : FirstLine (Duplicate file rows n) (duplicateLine file rows n)
   unfolding duplicateLine
   duplicate-is = first-as (λ l x. to l x) (λ l x. from l x) (first-either row-is (again-is file))

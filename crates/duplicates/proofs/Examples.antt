@@ -11,9 +11,12 @@ use Rattle.numeral.specs.Digits.{isDigit, allDigits, valueFrom}
 use Rattle.numeral.specs.Integer.{inRange, isInteger, integerOf}
 use Rattle.columns.specs.Rows.{padded}
 use Rattle.heads.specs.Heads.{isNameByte, allNameBytes, isName, extensionNames, extensionWord, extensionHead, extensionFields, extensionOf, wordNumberOf}
-use Rattle.grammar.specs.Sections.{sectionNames, sectionNo, hasSection, placeIn}
+use Rattle.sections.specs.Sections.{sectionNames, sectionNo, hasSection, placeIn}
 use Rattle.grammar.specs.Definitions.{keyOf, valueOf, isDefinition}
-use Rattle.grammar.specs.Steps.{fresh, blankStep, mayEnter, enterOf, sectionAt, sectionStep, majorWord, minorWord, revisionWord, versionRow, editionOf, minorRow, versionStep, definitionStep, listedOf, extensionRow, extensionStep, isExtension, extensionsStep, linesStep, plainStep, markedStep, stepOf}
+use Rattle.places.specs.Places.{fresh}
+use Rattle.grammar.specs.Steps.{blankStep, definitionStep, listedOf, extensionRow, extensionStep, isExtension, extensionsStep, linesStep, plainStep, markedStep, stepOf}
+use Rattle.sections.specs.Entering.{mayEnter, enterOf, sectionAt, sectionStep}
+use Rattle.sections.specs.Version.{majorWord, minorWord, revisionWord, versionRow, editionOf, minorRow, versionStep}
 use Rattle.file.specs.Whole.{isFault, gathered}
 use Rattle.duplicates.specs.Words.{rowNames, foundNames, onceOf, wordOf, wordsIn, wordAt, wordsFrom, isSame, nextLine, earlier, againLine}
 

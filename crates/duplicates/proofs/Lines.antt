@@ -9,7 +9,7 @@ use lib.IntN.{ℤ}
 use Rattle.text.proofs.Cases.{lt-or-ge, eq-or-ne}
 use Rattle.file.specs.Rows.{rowsOf, lineOf}
 use Rattle.tables.specs.Tables.{firstAgain}
-use Rattle.duplicates.specs.Words.{earlier, againLine, wordsOf, rowAgain, duplicateLine}
+use Rattle.duplicates.specs.Words.{earlier, againLine, wordsOf, rowAgainLine, duplicateLine}
 
 -- ---- by the tests of the code
 module _ (a b : ℕ) where
@@ -80,9 +80,9 @@ earlier-more a b c = go (eq-or-ne a 0) (eq-or-ne b 0) (eq-or-ne c 0)
 -- ---- the row's line beside the word's
 module _ (file : List ℕ) (rows : List ℤ) (n k word : ℕ) (p : k ≡ firstAgain rows n) (q : word ≡ againLine (wordsOf file)) where
   pub duplicate-row : k < n → (line : ℕ) → line ≡ lineOf (rowsOf file) k → earlier line word ≡ duplicateLine file rows n
-  unfolding duplicateLine rowAgain
+  unfolding duplicateLine rowAgainLine
   duplicate-row h line e = rw (← p, lt-ltb k n h, e, q)
 
   pub duplicate-word : n ≤ k → word ≡ duplicateLine file rows n
-  unfolding duplicateLine rowAgain
+  unfolding duplicateLine rowAgainLine
   duplicate-word h = rw (← p, le-ltb k n h) (q ∙ earlier-second 0 _ refl)

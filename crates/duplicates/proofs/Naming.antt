@@ -1,6 +1,6 @@
 -- Words sought line by line. Assumes nothing.
 use Prim.Native.Nat.{ℕ, _+_, _-_, _≤_}
-use mathlib.Core.Bool.{true, false, true≢false}
+use mathlib.Core.Bool.{Bool, true, false, true≢false}
 use mathlib.Core.List.{List, [], _++_}
 use mathlib.Core.Path.{_≡_, refl, sym, ap, _∙_}
 use native.Mathlib.Omega.{arith}
@@ -13,10 +13,11 @@ use Rattle.text.specs.Words.{sameBytes}
 use Rattle.text.specs.declared.Line.{Line}
 use Rattle.text.proofs.Cut.{LineAt}
 use Rattle.signed.specs.Signed.{sameZ}
-use Rattle.grammar.specs.Steps.{fresh, stepOf}
-use Rattle.grammar.specs.declared.Found.{Found}
-use Rattle.grammar.specs.declared.State.{State}
-use Rattle.grammar.specs.declared.Stepped.{Stepped}
+use Rattle.places.specs.Places.{fresh}
+use Rattle.grammar.specs.Steps.{stepOf}
+use Rattle.places.specs.declared.Found.{Found}
+use Rattle.places.specs.declared.State.{State}
+use Rattle.places.specs.declared.Stepped.{Stepped}
 use Rattle.file.specs.Whole.{isFault}
 use Rattle.file.proofs.Walking.{Within, within-start, within-turn, gathered-turn, gathered-stop, gathered-end}
 use Rattle.duplicates.specs.declared.Sort.{Sort}
@@ -61,9 +62,9 @@ module _ (line : List ℕ) (once : Once) (ws : List Word) where
   unfolding nextOf
   next-nothing e = rw e
 
-  pub next-word : (sort : Sort) → once ≡ OnceWord sort → nextLine sort (wordOf line sort) ws ≡ nextOf line once ws
+  pub next-word : (sort : Sort) → once ≡ OnceWord sort → (word : List ℕ) → word ≡ wordOf line sort → (r : ℕ) → r ≡ nextLine sort word ws → r ≡ nextOf line once ws
   unfolding nextOf
-  next-word sort e = rw e
+  next-word sort e word p r q = q ∙ rw (p, e)
 
 -- ---- a line's word in front of others
 module _ (n : ℕ) (line : List ℕ) (rest : List Word) where
@@ -97,13 +98,14 @@ module _ (file word : List ℕ) (sort : Sort) (a : ℕ) (st : State) (at n : ℕ
       more : nextLine sort word (wordAt n (take (r .stop - at) (drop at file)) s ++ wordsFrom (s .next) (n + 1) (linesOf (drop (r .next) file))) ≡ a
       more = ap (nextLine sort word) (gathered-turn file at r l st n s p wordAt e) ∙ w .same
 
-      pub naming-hit : namesWord (take (r .stop - at) (drop at file)) (onceOf s) sort word ≡ true → n ≡ a
-      unfolding wordAt
-      naming-hit h = next-hit n _ _ (onceOf s) sort word h ∙ more
+      module _ (b : Bool) (q : b ≡ namesWord (take (r .stop - at) (drop at file)) (onceOf s) sort word) where
+        pub naming-hit : b ≡ true → n ≡ a
+        unfolding wordAt
+        naming-hit h = next-hit n _ _ (onceOf s) sort word (sym q ∙ h) ∙ more
 
-      pub naming-turn : namesWord (take (r .stop - at) (drop at file)) (onceOf s) sort word ≡ false → NamingWalk file word sort a (s .next) (r .next) (n + 1)
-      unfolding wordAt
-      naming-turn h = let m = w .number in let f = l .further in record { number = omega arith; same = next-miss n _ _ (onceOf s) sort word h ∙ more }
+        pub naming-turn : b ≡ false → NamingWalk file word sort a (s .next) (r .next) (n + 1)
+        unfolding wordAt
+        naming-turn h = let m = w .number in let f = l .further in record { number = omega arith; same = next-miss n _ _ (onceOf s) sort word (sym q ∙ h) ∙ more }
 
   pub naming-end : length file ≤ at → 0 ≡ a
   unfolding nextLine

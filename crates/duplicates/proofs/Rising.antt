@@ -26,23 +26,26 @@ use Rattle.columns.specs.declared.Form.the-variants.{Entry, Trigger}
 use Rattle.heads.specs.Heads.{labelOf, extensionOf, wordNumberOf}
 use Rattle.heads.specs.declared.Head.{Head as HeadLine}
 use Rattle.heads.specs.declared.Head.the-variants.{Label, Extension, Bad as HeadBad}
-use Rattle.grammar.specs.Sections.{sectionNo, placeIn}
+use Rattle.sections.specs.Sections.{sectionNo, placeIn}
 use Rattle.grammar.specs.Definitions.{isDefinition}
-use Rattle.grammar.specs.Steps.{fresh, wentOf, refusedOf, definedOf, gaveOf, movedOf, blankStep, mayEnter, entered, enterOf, earlySection, sectionAt, sectionStep, majorWord, minorWord, revisionWord, versionRow, editionOf, minorRow, versionStep, definitionStep, givenRow, rowStep, labelRow, labelStep, listedOf, extensionRow, extensionStep, isExtension, listedStep, extensionsStep, shapeIdWord, numSamplesWord, headRow, headStep, countedOf, countRow, countStep, valueRow, linesStep, plainStep, markedStep, stepOf}
-use Rattle.grammar.specs.declared.Due.{Due}
-use Rattle.grammar.specs.declared.Due.the-variants.{Major, Minor, Revision}
-use Rattle.grammar.specs.declared.Lines.{Lines}
-use Rattle.grammar.specs.declared.Lines.the-variants.{None, Definitions, Rows, Shapes}
-use Rattle.grammar.specs.declared.Listed.{Listed}
-use Rattle.grammar.specs.declared.Listed.the-variants.{Entries, Triggers, Labels, Unknown}
-use Rattle.grammar.specs.declared.Place.{Place}
-use Rattle.grammar.specs.declared.Place.the-variants.{Start, Version, Section, Extensions, Head, Values, Signature}
-use Rattle.grammar.specs.declared.Fault.{Fault}
-use Rattle.grammar.specs.declared.Fault.the-variants.{Line as LineFault, Version as VersionFault, Section as SectionFault, Field as FieldFault}
-use Rattle.grammar.specs.declared.Found.{Found}
-use Rattle.grammar.specs.declared.Found.the-variants.{Nothing, Row as FoundRow, Definition, Fault as FoundFault}
-use Rattle.grammar.specs.declared.State.{State}
-use Rattle.grammar.specs.declared.Stepped.{Stepped}
+use Rattle.places.specs.Places.{fresh, wentOf, refusedOf, movedOf}
+use Rattle.grammar.specs.Steps.{definedOf, gaveOf, blankStep, definitionStep, givenRow, rowStep, labelRow, labelStep, listedOf, extensionRow, extensionStep, isExtension, listedStep, extensionsStep, shapeIdWord, numSamplesWord, headRow, headStep, countedOf, countRow, countStep, valueRow, linesStep, plainStep, markedStep, stepOf}
+use Rattle.sections.specs.Entering.{mayEnter, entered, enterOf, earlySection, sectionAt, sectionStep}
+use Rattle.sections.specs.Version.{majorWord, minorWord, revisionWord, versionRow, editionOf, minorRow, versionStep}
+use Rattle.places.specs.declared.Due.{Due}
+use Rattle.places.specs.declared.Due.the-variants.{Major, Minor, Revision}
+use Rattle.places.specs.declared.Lines.{Lines}
+use Rattle.places.specs.declared.Lines.the-variants.{None, Definitions, Rows, Shapes}
+use Rattle.places.specs.declared.Listed.{Listed}
+use Rattle.places.specs.declared.Listed.the-variants.{Entries, Triggers, Labels, Unknown}
+use Rattle.places.specs.declared.Place.{Place}
+use Rattle.places.specs.declared.Place.the-variants.{Start, Version, Section, Extensions, Head, Values, Signature}
+use Rattle.places.specs.declared.Fault.{Fault}
+use Rattle.places.specs.declared.Fault.the-variants.{Line as LineFault, Version as VersionFault, Section as SectionFault, Field as FieldFault}
+use Rattle.places.specs.declared.Found.{Found}
+use Rattle.places.specs.declared.Found.the-variants.{Nothing, Row as FoundRow, Definition, Fault as FoundFault}
+use Rattle.places.specs.declared.State.{State}
+use Rattle.places.specs.declared.Stepped.{Stepped}
 use Rattle.file.specs.Whole.{isFault, isRow, gathered}
 use Rattle.file.specs.Rows.{Placed, rowAt, rowsFrom, rowsOf, lineOf}
 use Rattle.duplicates.specs.declared.Once.{Once}

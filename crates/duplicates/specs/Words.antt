@@ -12,11 +12,11 @@ use Rattle.text.specs.Words.{sameBytes}
 use Rattle.signed.specs.Signed.{sameZ}
 use Rattle.columns.specs.Columns.{extensionKind}
 use Rattle.grammar.specs.Definitions.{keyOf}
-use Rattle.grammar.specs.Steps.{fresh}
-use Rattle.grammar.specs.declared.Found.{Found}
-use Rattle.grammar.specs.declared.Found.the-variants.{Nothing as FoundNothing, Row, Definition, Fault as FoundFault}
-use Rattle.grammar.specs.declared.State.{State}
-use Rattle.grammar.specs.declared.Stepped.{Stepped}
+use Rattle.places.specs.Places.{fresh}
+use Rattle.places.specs.declared.Found.{Found}
+use Rattle.places.specs.declared.Found.the-variants.{Nothing as FoundNothing, Row, Definition, Fault as FoundFault}
+use Rattle.places.specs.declared.State.{State}
+use Rattle.places.specs.declared.Stepped.{Stepped}
 use Rattle.file.specs.Whole.{gathered}
 use Rattle.file.specs.Rows.{rowsOf, lineOf}
 use Rattle.tables.specs.Tables.{firstAgain}
@@ -87,8 +87,8 @@ againLine [] = 0
 againLine (w ∷ ws) = earlier (nextLine (w .sort) (w .word) ws) (againLine ws)
 
 -- ---- DUPLICATE "at the first line concerned": of the first of n rows that repeats an ID or type, and of the first word met again, the earlier
-unfoldable pub rowAgain : List ℕ → List ℤ → ℕ → ℕ
-rowAgain file rows n = cond (ltb (firstAgain rows n) n) (lineOf (rowsOf file) (firstAgain rows n)) 0
+unfoldable pub rowAgainLine : List ℕ → List ℤ → ℕ → ℕ
+rowAgainLine file rows n = cond (ltb (firstAgain rows n) n) (lineOf (rowsOf file) (firstAgain rows n)) 0
 
 unfoldable pub duplicateLine : List ℕ → List ℤ → ℕ → ℕ
-duplicateLine file rows n = earlier (rowAgain file rows n) (againLine (wordsOf file))
+duplicateLine file rows n = earlier (rowAgainLine file rows n) (againLine (wordsOf file))

@@ -3,12 +3,11 @@ ghost use mathlib.Core.Path.{_≡_};
 ghost use Prim.Native.Nat.{_+_, _≤_};
 ghost use lib.ListN.{drop};
 ghost use Rattle.text.specs.Lines.{linesOf};
-ghost use Rattle.file.specs.Whole.{isFault};
 ghost use Rattle.duplicates.specs.Words.{rowNames, onceOf, wordOf, sortNumber, wordsFrom, wordsOf, nextLine, earlier, againLine, duplicateLine};
 ghost use Rattle.duplicates.specs.Inside.{namesWord, nextOf};
-use grammar::Found;
-use grammar::State;
-use grammar::Stepped;
+use places::Found;
+use places::State;
+use places::Stepped;
 
 // The two sorts of words that may stand once in a file: keys of definitions, and names of extensions.
 pub enum Sort {
@@ -20,18 +19,6 @@ pub enum Sort {
 pub enum Once {
     Nothing,
     Word(Sort),
-}
-
-// Is this a fault?
-fn is_fault(found: Found) -> bool
-    ensures { λ r. ⌜ r ≡ isFault found ⌝ }
-{
-    match found {
-        Found::Nothing => false,
-        Found::Row => false,
-        Found::Definition => false,
-        Found::Fault(_) => true,
-    }
 }
 
 // What a row of this kind names.
@@ -113,7 +100,7 @@ fn line_naming(
         let stop = line.stop;
         let did = grammar::step(st, n, &file[at..stop]);
         let found = did.found;
-        if is_fault(found) {
+        if file::is_fault(found) {
             return 0;
         }
         if names(&file[at..stop], did, sort, word) {
@@ -161,7 +148,7 @@ fn earlier(a: usize, b: usize) -> usize
 pub fn word_again(file: &[u8]) -> usize
     ensures { λ r. ⌜ r ≡ againLine (wordsOf (now (file .entry))) ⌝ }
 {
-    let mut st = grammar::start();
+    let mut st = places::start();
     let mut at: usize = 0;
     let mut n: usize = 1;
     let mut first: usize = 0;
@@ -171,7 +158,7 @@ pub fn word_again(file: &[u8]) -> usize
         let behind = line.next;
         let did = grammar::step(st, n, &file[at..stop]);
         let found = did.found;
-        if is_fault(found) {
+        if file::is_fault(found) {
             return first;
         }
         n += 1;

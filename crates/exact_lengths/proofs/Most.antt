@@ -18,7 +18,7 @@ use Rattle.columns.specs.declared.Form.{Form}
 use Rattle.columns.specs.declared.Form.the-variants.{Block, Rf, Gradient, Trap, Adc, Delay, Entry, Trigger}
 use Rattle.columns.proofs.Back.{whole-width}
 use Rattle.columns.proofs.Zeros.{padded-own, row-short}
-use Rattle.grammar.specs.Ranges.{RowIn, by-columns, extension, label, shape}
+use Rattle.file_laws.specs.Ranges.{RowIn, by-columns, extension, label, shape}
 use Rattle.tables.specs.Tables.{numberAt}
 use Rattle.exact_lengths.specs.Tables.{RowHeld}
 

@@ -7,7 +7,7 @@ use lib.ListN.{getD}
 use Rattle.unit.specs.declared.Rasters.{Rasters}
 use Rattle.shape.specs.declared.Edition.{Edition}
 use Rattle.tables.specs.Tables.{numberAt}
-use Rattle.grammar.specs.Ranges.{RowIn}
+use Rattle.file_laws.specs.Ranges.{RowIn}
 
 -- row k of a table holds a row in range
 pub record RowHeld (e : Edition) (rows : List ℤ) (k : ℕ) : Type 0 where

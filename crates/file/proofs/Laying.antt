@@ -13,14 +13,15 @@ use lib.Seq.{sets, length-sets, drop-cons}
 use Rattle.text.specs.Lines.{linesOf}
 use Rattle.text.specs.declared.Line.{Line}
 use Rattle.text.proofs.Cut.{LineAt}
-use Rattle.grammar.specs.declared.Found.{Found}
-use Rattle.grammar.specs.declared.Found.the-variants.{Nothing, Row, Definition, Fault as FoundFault}
-use Rattle.grammar.specs.Steps.{fresh, stepOf}
-use Rattle.grammar.specs.declared.State.{State}
-use Rattle.grammar.specs.declared.Stepped.{Stepped}
-use Rattle.file.specs.Whole.{isFault, isRow}
+use Rattle.places.specs.declared.Found.{Found}
+use Rattle.places.specs.declared.Found.the-variants.{Nothing, Row, Definition, Fault as FoundFault}
+use Rattle.places.specs.Places.{fresh}
+use Rattle.grammar.specs.Steps.{stepOf}
+use Rattle.places.specs.declared.State.{State}
+use Rattle.places.specs.declared.Stepped.{Stepped}
+use Rattle.file.specs.Whole.{isFault, isRow, rowCount}
 use Rattle.file.specs.Rows.{Placed, rowAt, rowsFrom, rowsOf, lineOf, laidRow, laidRows}
-use Rattle.file.specs.Inside.{rowCount, Laid}
+use Rattle.file.specs.Inside.{Laid}
 use Rattle.file.proofs.Walking.{Within, within-start, within-turn, gathered-turn, gathered-stop, gathered-end}
 
 -- ---- a row over a table

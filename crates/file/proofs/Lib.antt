@@ -2,8 +2,3 @@
 pub mod Walking
 pub mod Laying
 pub mod Reading
-pub mod Ranges
-pub mod Seeking
-pub mod Stored
-pub mod Unique
-pub mod Examples

@@ -10,10 +10,11 @@ use lib.ListN.{length, take, drop}
 use Rattle.text.specs.Lines.{linesOf}
 use Rattle.text.specs.declared.Line.{Line}
 use Rattle.text.proofs.Cut.{LineAt}
-use Rattle.grammar.specs.Steps.{fresh, endingOf, stepOf}
-use Rattle.grammar.specs.declared.Found.{Found}
-use Rattle.grammar.specs.declared.State.{State}
-use Rattle.grammar.specs.declared.Stepped.{Stepped}
+use Rattle.places.specs.Places.{fresh, endingOf}
+use Rattle.grammar.specs.Steps.{stepOf}
+use Rattle.places.specs.declared.Found.{Found}
+use Rattle.places.specs.declared.State.{State}
+use Rattle.places.specs.declared.Stepped.{Stepped}
 use Rattle.file.specs.Whole.{ended, judged, verdictFrom, verdictOf, isFault}
 use Rattle.file.specs.Rows.{Placed, rowAt, rowsFrom, rowsOf, laidRows, answerOf, scannedOf, Scanning}
 use Rattle.file.specs.Inside.{Laid}

@@ -9,11 +9,12 @@ use lib.ListN.{length, take, drop, drop-of-length-le}
 use Rattle.text.specs.Lines.{linesOf}
 use Rattle.text.specs.declared.Line.{Line}
 use Rattle.text.proofs.Cut.{LineAt}
-use Rattle.grammar.specs.Steps.{endingOf, stepOf}
-use Rattle.grammar.specs.declared.Found.{Found}
-use Rattle.grammar.specs.declared.Found.the-variants.{Nothing, Row, Definition, Fault as FoundFault}
-use Rattle.grammar.specs.declared.State.{State}
-use Rattle.grammar.specs.declared.Stepped.{Stepped}
+use Rattle.places.specs.Places.{endingOf}
+use Rattle.grammar.specs.Steps.{stepOf}
+use Rattle.places.specs.declared.Found.{Found}
+use Rattle.places.specs.declared.Found.the-variants.{Nothing, Row, Definition, Fault as FoundFault}
+use Rattle.places.specs.declared.State.{State}
+use Rattle.places.specs.declared.Stepped.{Stepped}
 use Rattle.file.specs.Whole.{Verdict, ended, judged, verdictFrom, isFault, gathered}
 
 -- ---- bounds that hold at every line

@@ -9,9 +9,9 @@ use lib.ListN.{length, getD}
 use lib.Seq.{sets}
 use Rattle.text.specs.Lines.{linesOf}
 use Rattle.columns.specs.Rows.{rowWidth}
-use Rattle.grammar.specs.Steps.{fresh}
-use Rattle.grammar.specs.declared.State.{State}
-use Rattle.grammar.specs.declared.Stepped.{Stepped}
+use Rattle.places.specs.Places.{fresh}
+use Rattle.places.specs.declared.State.{State}
+use Rattle.places.specs.declared.Stepped.{Stepped}
 use Rattle.file.specs.Whole.{Verdict, ended, stopped, verdictOf, isRow, gathered}
 use Rattle.file.specs.declared.Scanned.{Scanned}
 use Rattle.file.specs.declared.Scanned.the-variants.{File, Fault}

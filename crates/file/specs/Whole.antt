@@ -3,12 +3,13 @@ use Prim.Native.Nat.{ℕ, suc}
 use mathlib.Core.Bool.{Bool, true, false, cond}
 use mathlib.Core.List.{List, [], _∷_, _++_}
 use Rattle.text.specs.Lines.{linesOf}
-use Rattle.grammar.specs.Steps.{fresh, endingOf, stepOf}
-use Rattle.grammar.specs.declared.Fault.{Fault}
-use Rattle.grammar.specs.declared.Found.{Found}
-use Rattle.grammar.specs.declared.Found.the-variants.{Nothing, Row, Definition, Fault as FoundFault}
-use Rattle.grammar.specs.declared.State.{State}
-use Rattle.grammar.specs.declared.Stepped.{Stepped}
+use Rattle.places.specs.Places.{fresh, endingOf}
+use Rattle.grammar.specs.Steps.{stepOf}
+use Rattle.places.specs.declared.Fault.{Fault}
+use Rattle.places.specs.declared.Found.{Found}
+use Rattle.places.specs.declared.Found.the-variants.{Nothing, Row, Definition, Fault as FoundFault}
+use Rattle.places.specs.declared.State.{State}
+use Rattle.places.specs.declared.Stepped.{Stepped}
 
 -- ---- "Then 2 to 5 line by line: the first faulty line answers, with its lowest number. A row due when the file ends answers its number at line 0."
 pub data Verdict : Type 0 where
@@ -41,6 +42,13 @@ isRow Nothing = false
 isRow Row = true
 isRow Definition = false
 isRow (FoundFault fault) = false
+
+-- how many rows a line gives
+abbrev pub rowCount : Found → ℕ
+rowCount Nothing = 0
+rowCount Row = 1
+rowCount Definition = 0
+rowCount (FoundFault fault) = 0
 
 unfoldable pub isDefined : Found → Bool
 isDefined Nothing = false

@@ -1,24 +1,14 @@
-// A whole file: its rows with their lines, its definitions beside a site's, and the stored lines of its shapes.
+// A whole file, line by line: its rows with their lines, or the first fault.
 ghost use mathlib.Core.Path.{_≡_};
-ghost use mathlib.Core.Bool.{_&&_};
 ghost use mathlib.Core.List.{[]};
-ghost use Prim.Native.Nat.{_+_};
-ghost use lib.ListN.{length, drop};
-ghost use Rattle.text.specs.Lines.{wholeLinesOf};
-ghost use Rattle.text.specs.Marks.{markOf};
-ghost use Rattle.text.specs.Words.{sameBytes};
-ghost use Rattle.grammar.specs.Definitions.{keyOf};
-ghost use Rattle.file.specs.Whole.{judged, ended, isFault, isDefined};
+ghost use Rattle.file.specs.Whole.{judged, ended, isFault, rowCount};
 ghost use Rattle.file.specs.Rows.{rowAt, rowsOf, lineOf, laidRow, answerOf, Scanning};
-ghost use Rattle.file.specs.Definitions.{definitionsOf, siteLine, siteDefinitions, siteFault, isNamed, sought, definitionOf};
-ghost use Rattle.file.specs.Shapes.{endsShape, valuesText, isShape, storedOf};
-ghost use Rattle.file.specs.Inside.{rowCount, Laid};
-use grammar::Fault;
-use grammar::Found;
-use grammar::State;
-use grammar::Stepped;
+ghost use Rattle.file.specs.Inside.{Laid};
+use places::Fault;
+use places::Found;
+use places::State;
+use places::Stepped;
 use shape::Edition;
-use text::Mark;
 
 // What reading all lines answers: the edition, how many rows and samples there are, and whether `[DEFINITIONS]` stands in the file; or the first
 // fault and its line, 0 at the end of the file.
@@ -49,7 +39,7 @@ fn lay_row(rows: &mut [i64], k: usize, cells: [i64; 12])
 }
 
 // Is this a fault?
-fn is_fault(found: Found) -> bool
+pub fn is_fault(found: Found) -> bool
     ensures { λ r. ⌜ r ≡ isFault found ⌝ }
 {
     match found {
@@ -61,7 +51,7 @@ fn is_fault(found: Found) -> bool
 }
 
 // How many rows this is: one or none.
-fn row_count(found: Found) -> usize
+pub fn row_count(found: Found) -> usize
     ensures { λ r. ⌜ r ≡ rowCount found ⌝ }
 {
     match found {
@@ -69,18 +59,6 @@ fn row_count(found: Found) -> usize
         Found::Row => 1,
         Found::Definition => 0,
         Found::Fault(_) => 0,
-    }
-}
-
-// Is this a definition?
-fn is_defined(found: Found) -> bool
-    ensures { λ r. ⌜ r ≡ isDefined found ⌝ }
-{
-    match found {
-        Found::Nothing => false,
-        Found::Row => false,
-        Found::Definition => true,
-        Found::Fault(_) => false,
     }
 }
 
@@ -128,7 +106,7 @@ fn lay_found(rows: &mut [i64], k: usize, did: Stepped) -> usize
 pub fn scan(file: &[u8], rows: &mut [i64]) -> Scanned
     ensures { λ r. ⌜ Scanning (now (file .entry)) r (now (rows .entry)) (now (rows .exit)) ⌝ }
 {
-    let mut st = grammar::start();
+    let mut st = places::start();
     let mut at: usize = 0;
     let mut n: usize = 1;
     let mut used: usize = 0;
@@ -146,7 +124,7 @@ pub fn scan(file: &[u8], rows: &mut [i64]) -> Scanned
         let next = did.next;
         st = next;
     }
-    let found = grammar::ending(st);
+    let found = places::ending(st);
     answer(found, 0, st, used)
 }
 
@@ -154,7 +132,7 @@ pub fn scan(file: &[u8], rows: &mut [i64]) -> Scanned
 pub fn row_line(file: &[u8], k: usize) -> usize
     ensures { λ r. ⌜ r ≡ lineOf (rowsOf (now (file .entry))) k ⌝ }
 {
-    let mut st = grammar::start();
+    let mut st = places::start();
     let mut at: usize = 0;
     let mut n: usize = 1;
     let mut left = k;
@@ -177,194 +155,4 @@ pub fn row_line(file: &[u8], k: usize) -> usize
         st = next;
     }
     0
-}
-
-// Is this line, which gave what was found, a definition of the key?
-fn defines(line: &[u8], found: Found, key: &[u8]) -> bool
-    ensures { λ r. ⌜ r ≡ isDefined found && sameBytes (keyOf (now (line .entry))) (now (key .entry)) ⌝ }
-{
-    if is_defined(found) {
-        return text::same(text::field(line, 0), key);
-    }
-    false
-}
-
-// The value of a key in a file; empty if it is not defined there.
-pub fn file_definition<'a>(file: &'a [u8], key: &[u8]) -> &'a [u8]
-    ensures { λ r. ⌜ now r ≡ sought (now (key .entry)) (definitionsOf (now (file .entry))) ⌝ }
-{
-    let mut st = grammar::start();
-    let mut at: usize = 0;
-    let mut n: usize = 1;
-    while at < file.len() {
-        let line = text::next_line(file, at);
-        let stop = line.stop;
-        let did = grammar::step(st, n, &file[at..stop]);
-        let found = did.found;
-        if is_fault(found) {
-            return &file[..0];
-        }
-        if defines(&file[at..stop], found, key) {
-            return grammar::value(&file[at..stop]);
-        }
-        n += 1;
-        at = line.next;
-        let next = did.next;
-        st = next;
-    }
-    &file[..0]
-}
-
-// What a line of a site's definitions is.
-fn site_line(line: &[u8]) -> Found
-    ensures { λ r. ⌜ r ≡ siteLine (now (line .entry)) ⌝ }
-{
-    if text::breaks_line(line) {
-        return Found::Fault(Fault::Line);
-    }
-    match text::mark_of(line) {
-        Mark::Blank => Found::Nothing,
-        Mark::Comment => Found::Nothing,
-        Mark::Section => Found::Fault(Fault::Section),
-        Mark::Plain => {
-            if grammar::value(line).len() == 0 {
-                return Found::Fault(Fault::Field);
-            }
-            Found::Definition
-        }
-    }
-}
-
-// The value of a key in a site's definitions; empty if it is not defined there.
-pub fn site_definition<'a>(site: &'a [u8], key: &[u8]) -> &'a [u8]
-    ensures { λ r. ⌜ now r ≡ sought (now (key .entry)) (siteDefinitions (now (site .entry))) ⌝ }
-{
-    let mut at: usize = 0;
-    while at < site.len() {
-        let line = text::next_line(site, at);
-        let stop = line.stop;
-        let found = site_line(&site[at..stop]);
-        if is_fault(found) {
-            return &site[..0];
-        }
-        if defines(&site[at..stop], found, key) {
-            return grammar::value(&site[at..stop]);
-        }
-        at = line.next;
-    }
-    &site[..0]
-}
-
-// Does this line, which is what was found, define a key that the rest defines again?
-fn repeats(line: &[u8], found: Found, rest: &[u8]) -> bool
-    ensures { λ r. ⌜ r ≡ isDefined found && isNamed (keyOf (now (line .entry))) (siteDefinitions (now (rest .entry))) ⌝ }
-{
-    if is_defined(found) {
-        return 0 < site_definition(rest, text::field(line, 0)).len();
-    }
-    false
-}
-
-// Are a site's definitions at fault?
-pub fn site_fault(site: &[u8]) -> bool
-    ensures { λ r. ⌜ r ≡ siteFault (now (site .entry)) ⌝ }
-{
-    let mut at: usize = 0;
-    while at < site.len() {
-        let line = text::next_line(site, at);
-        let stop = line.stop;
-        let next = line.next;
-        let found = site_line(&site[at..stop]);
-        if is_fault(found) {
-            return true;
-        }
-        if repeats(&site[at..stop], found, &site[next..]) {
-            return true;
-        }
-        at = next;
-    }
-    false
-}
-
-// The value of a key: the file's, else the site's; empty if neither defines it.
-pub fn definition<'a>(file: &'a [u8], site: &'a [u8], key: &[u8]) -> &'a [u8]
-    ensures { λ r. ⌜ now r ≡ definitionOf (now (file .entry)) (now (site .entry)) (now (key .entry)) ⌝ }
-{
-    let value = file_definition(file, key);
-    if value.len() == 0 {
-        return site_definition(site, key);
-    }
-    value
-}
-
-// Does this line end a shape's stored lines?
-fn ends_shape(line: &[u8]) -> bool
-    ensures { λ r. ⌜ r ≡ endsShape (markOf (now (line .entry))) ⌝ }
-{
-    match text::mark_of(line) {
-        Mark::Blank => true,
-        Mark::Comment => false,
-        Mark::Section => true,
-        Mark::Plain => false,
-    }
-}
-
-// Where the stored lines stop that start at a place.
-fn stored_end(file: &[u8], from: usize) -> usize
-    ensures { λ r. ⌜ r ≡ from + length (valuesText (wholeLinesOf (drop from (now (file .entry))))) ⌝ }
-{
-    let mut at = from;
-    while at < file.len() {
-        let line = text::next_line(file, at);
-        let stop = line.stop;
-        if ends_shape(&file[at..stop]) {
-            return at;
-        }
-        at = line.next;
-    }
-    at
-}
-
-// Is this the row of the shape with this ID?
-fn is_shape(did: Stepped, id: i64) -> bool
-    ensures { λ r. ⌜ r ≡ isShape id did ⌝ }
-{
-    let found = did.found;
-    if row_count(found) == 0 {
-        return false;
-    }
-    let kind = did.cells[0];
-    if !signed::same(kind, 11) {
-        return false;
-    }
-    let number = did.cells[1];
-    signed::same(number, id)
-}
-
-// The stored lines of the first shape with this ID; empty if there is none.
-pub fn stored_lines(file: &[u8], id: i64) -> &[u8]
-    ensures { λ r. ⌜ now r ≡ storedOf (now (file .entry)) id ⌝ }
-{
-    let mut st = grammar::start();
-    let mut at: usize = 0;
-    let mut n: usize = 1;
-    while at < file.len() {
-        let line = text::next_line(file, at);
-        let stop = line.stop;
-        let behind = line.next;
-        let did = grammar::step(st, n, &file[at..stop]);
-        let found = did.found;
-        if is_fault(found) {
-            return &file[..0];
-        }
-        if is_shape(did, id) {
-            let end = stored_end(file, behind);
-            return &file[behind..end];
-        }
-        n += 1;
-        at = behind;
-        let next = did.next;
-        st = next;
-    }
-    &file[..0]
 }

@@ -4,10 +4,10 @@
 ghost use Prim.Native.Nat.{_≤_};
 ghost use lib.ListN.{length};
 use file::Scanned;
-use grammar::Fault;
 use libc::STDIN_FILENO;
 use libc::STDOUT_FILENO;
 use numeral::Natural;
+use places::Fault;
 use shape::Edition;
 
 // Hands a text to standard output.
@@ -91,7 +91,7 @@ fn show_whole(edition: Edition, rows: usize, samples: u64, defined: bool) {
 
 // Writes the stored lines of a shape behind their length.
 fn show_stored(file: &[u8], id: i64) {
-    let stored = file::stored_lines(file, id);
+    let stored = stored::stored_lines(file, id);
     show_number(b"stored ", stored.len() as u64);
     write(stored);
     write(b"\n");
@@ -150,7 +150,7 @@ fn show_file(file: &[u8]) {
 
 // Writes a key, and the length and the value of its definition.
 fn show_definition<'a>(file: &'a [u8], site: &'a [u8], key: &[u8]) {
-    let value = file::definition(file, site, key);
+    let value = definitions::definition(file, site, key);
     let mut out = [0u8; 2048];
     let a = text::put_bytes(&mut out, 0, key);
     let b = put_named(&mut out, a, b" ", value.len() as u64);
@@ -160,7 +160,7 @@ fn show_definition<'a>(file: &'a [u8], site: &'a [u8], key: &[u8]) {
 
 // Writes whether a site's definitions are good.
 fn show_site(site: &[u8]) {
-    if file::site_fault(site) {
+    if definitions::site_fault(site) {
         write(b"site bad\n");
         return;
     }

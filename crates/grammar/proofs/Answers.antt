@@ -1,8 +1,8 @@
 -- What a step answers, by the answers of the code's tests and readings. Assumes nothing.
 use Prim.Native.Nat.{ℕ, _+_, _-_, _≤_, _<_, min}
-use mathlib.Core.Bool.{Bool, true, false, cond, not, _&&_}
+use mathlib.Core.Bool.{Bool, true, false, cond, not}
 use mathlib.Core.List.{List, [], _∷_}
-use mathlib.Core.Path.{_≡_, refl, sym, ap, _∙_}
+use mathlib.Core.Path.{_≡_, sym, ap, _∙_}
 use native.Mathlib.Omega.{arith}
 use borrow.Author.Tests.{le-leb}
 use lib.IntN.{ℤ, pos}
@@ -23,54 +23,16 @@ use Rattle.heads.specs.Heads.{labelOf, extensionOf, extensionWord, wordNumberOf
 use Rattle.heads.specs.declared.Head.{Head as HeadLine}
 use Rattle.heads.specs.declared.Head.the-variants.{Label, Extension, Bad as HeadBad}
 use Rattle.heads.proofs.Ranges.{label-range, extension-range, word-range}
-use Rattle.grammar.specs.Sections.{hasSection, placeIn}
 use Rattle.grammar.specs.Definitions.{valueOf, isDefinition}
-use Rattle.grammar.specs.Steps.{wentOf, refusedOf, definedOf, gaveOf, movedOf, mayEnter, entered, enterOf, earlySection, definitionStep, givenRow, rowStep, labelRow, labelStep, listedOf, extensionRow, extensionStep, isExtension, listedStep, extensionsStep, shapeIdWord, numSamplesWord, headRow, headStep, countedOf, countRow, countStep, plainStep, markedStep, stepOf}
-use Rattle.grammar.specs.declared.Listed.{Listed}
-use Rattle.grammar.specs.declared.Place.{Place}
-use Rattle.grammar.specs.declared.Place.the-variants.{Extensions, Head, Values}
-use Rattle.grammar.specs.declared.State.{State}
-use Rattle.grammar.specs.declared.Stepped.{Stepped}
-use Rattle.grammar.specs.declared.Fault.the-variants.{Line as LineFault, Section, Field}
-
--- what a function answers of a value that is known
-pub told : {A : Type 0} (f : A → Stepped) {x y : A} {r : Stepped} → r ≡ f y → x ≡ y → r ≡ f x
-told f h e = h ∙ sym (ap f e)
-
--- ---- a section
-module _ (st : State) (k : ℕ) where
-  pub enter-not-had : hasSection (st .edition) k ≡ false → false ≡ mayEnter st k
-  unfolding mayEnter
-  enter-not-had e = rw e
-
-  pub enter-had : hasSection (st .edition) k ≡ true → not (getD (st .seen) k false) ≡ mayEnter st k
-  unfolding mayEnter
-  enter-had e = rw e
-
-  pub enters : mayEnter st k ≡ true → wentOf (entered st k (placeIn k)) ≡ enterOf st k
-  unfolding enterOf
-  enters e = rw e
-
-  pub enters-not : mayEnter st k ≡ false → refusedOf st Section ≡ enterOf st k
-  unfolding enterOf
-  enters-not e = rw e
-
-  pub early-field : mayEnter st k ≡ true → refusedOf st Field ≡ earlySection st k
-  unfolding earlySection
-  early-field e = rw e
-
-  pub early-section : mayEnter st k ≡ false → refusedOf st Section ≡ earlySection st k
-  unfolding earlySection
-  early-section e = rw e
-
--- a section that may begin is one that the edition has
-pub may-had : (st : State) (k : ℕ) → mayEnter st k ≡ true → hasSection (st .edition) k ≡ true
-unfolding mayEnter
-may-had st k e = go (hasSection (st .edition) k) e
-  where
-    go : (b : Bool) → b && not (getD (st .seen) k false) ≡ true → b ≡ true
-    go true e = refl
-    go false e = e
+use Rattle.places.specs.Places.{wentOf, refusedOf, movedOf}
+use Rattle.grammar.specs.Steps.{definedOf, gaveOf, definitionStep, givenRow, rowStep, labelRow, labelStep, listedOf, extensionRow, extensionStep, isExtension, listedStep, extensionsStep, shapeIdWord, numSamplesWord, headRow, headStep, countedOf, countRow, countStep, plainStep, markedStep, stepOf}
+use Rattle.places.specs.declared.Listed.{Listed}
+use Rattle.places.specs.declared.Place.{Place}
+use Rattle.places.specs.declared.Place.the-variants.{Extensions, Head, Values}
+use Rattle.places.specs.declared.State.{State}
+use Rattle.places.specs.declared.Stepped.{Stepped}
+use Rattle.places.specs.declared.Fault.the-variants.{Line as LineFault, Field}
+use Rattle.places.proofs.Answers.{told}
 
 -- ---- a definition
 module _ (st : State) (line : List ℕ) where

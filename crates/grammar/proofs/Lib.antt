@@ -1,4 +1,2 @@
 -- The laws of a line where a file stands, and what several proofs use.
-pub mod Sections
 pub mod Answers
-pub mod Ranges

@@ -1,5 +1,3 @@
 -- What must be believed of a line where a file stands, in the paper's order.
-pub mod Sections
 pub mod Definitions
 pub mod Steps
-pub mod Ranges

@@ -1,10 +1,10 @@
 -- One line where a file stands. "Then 2 to 5 line by line: the first faulty line answers, with its lowest number."
 use Prim.Native.Nat.{ℕ, _+_, min}
-use mathlib.Core.Bool.{Bool, true, false, cond, not, _&&_}
+use mathlib.Core.Bool.{Bool, true, false, cond, not}
 use mathlib.Core.List.{List, [], _∷_}
 use lib.Dec.{eqb}
 use lib.IntN.{ℤ, pos}
-use lib.ListN.{getD, set, replicate}
+use lib.ListN.{getD, set}
 use Rattle.text.specs.Fields.{fieldsOf}
 use Rattle.text.specs.Marks.{markOf, breaksLine}
 use Rattle.text.specs.Words.{sameBytes}
@@ -17,8 +17,6 @@ use Rattle.numeral.specs.declared.Natural.the-variants.{Value as NaturalValue, 
 use Rattle.shape.specs.Stored.{itemOf}
 use Rattle.shape.specs.declared.Item.{Item}
 use Rattle.shape.specs.declared.Item.the-variants.{Value as ItemValue, Skipped, Bad as ItemBad}
-use Rattle.shape.specs.declared.Edition.{Edition}
-use Rattle.shape.specs.declared.Edition.the-variants.{V13, V14}
 use Rattle.columns.specs.Columns.{columnsOf, extensionKind, labelKind, shapeKind, mostOf}
 use Rattle.columns.specs.Rows.{rowFrom, blank, padded, rowIs}
 use Rattle.columns.specs.declared.Form.{Form}
@@ -28,59 +26,27 @@ use Rattle.columns.specs.declared.Row.{Row}
 use Rattle.heads.specs.Heads.{labelOf, extensionOf, extensionWord, wordNumberOf}
 use Rattle.heads.specs.declared.Head.{Head as HeadLine}
 use Rattle.heads.specs.declared.Head.the-variants.{Label, Extension, Bad as HeadBad}
-use Rattle.grammar.specs.Sections.{sectionNo, hasSection, placeIn}
 use Rattle.grammar.specs.Definitions.{isDefinition}
-use Rattle.grammar.specs.declared.Due.{Due}
-use Rattle.grammar.specs.declared.Due.the-variants.{Major, Minor, Revision}
-use Rattle.grammar.specs.declared.Lines.{Lines}
-use Rattle.grammar.specs.declared.Lines.the-variants.{None, Definitions, Rows, Shapes}
-use Rattle.grammar.specs.declared.Listed.{Listed}
-use Rattle.grammar.specs.declared.Listed.the-variants.{Entries, Triggers, Labels, Unknown}
-use Rattle.grammar.specs.declared.Place.{Place}
-use Rattle.grammar.specs.declared.Place.the-variants.{Start, Version, Section, Extensions, Head, Values, Signature}
-use Rattle.grammar.specs.declared.Fault.{Fault}
-use Rattle.grammar.specs.declared.Fault.the-variants.{Line as LineFault, Version as VersionFault, Section as SectionFault, Field as FieldFault}
-use Rattle.grammar.specs.declared.Found.{Found}
-use Rattle.grammar.specs.declared.Found.the-variants.{Nothing, Row as FoundRow, Definition, Fault as FoundFault}
-use Rattle.grammar.specs.declared.State.{State}
-use Rattle.grammar.specs.declared.Stepped.{Stepped}
+use Rattle.places.specs.declared.Lines.{Lines}
+use Rattle.places.specs.declared.Lines.the-variants.{None, Definitions, Rows, Shapes}
+use Rattle.places.specs.declared.Listed.{Listed}
+use Rattle.places.specs.declared.Listed.the-variants.{Entries, Triggers, Labels, Unknown}
+use Rattle.places.specs.declared.Place.{Place}
+use Rattle.places.specs.declared.Place.the-variants.{Start, Version, Section, Extensions, Head, Values, Signature}
+use Rattle.places.specs.declared.Fault.the-variants.{Line as LineFault, Version as VersionFault, Field as FieldFault}
+use Rattle.places.specs.declared.Found.the-variants.{Row as FoundRow, Definition}
+use Rattle.places.specs.declared.State.{State}
+use Rattle.places.specs.declared.Stepped.{Stepped}
+use Rattle.sections.specs.Version.{versionStep}
+use Rattle.sections.specs.Entering.{sectionStep}
+use Rattle.places.specs.Places.{wentOf, refusedOf, movedOf}
 
--- ---- "2 LINE, 3 VERSION, 4 SECTION, 5 FIELD"
-abbrev pub faultNumber : Fault → ℕ
-faultNumber LineFault = 2
-faultNumber VersionFault = 3
-faultNumber SectionFault = 4
-faultNumber FieldFault = 5
-
--- ---- What a line may give: nothing, a fault, a definition, or a row with its line
-abbrev pub wentOf : State → Stepped
-wentOf next = record { found = Nothing; line = 0; cells = blank; next = next }
-
-abbrev pub refusedOf : State → Fault → Stepped
-refusedOf st fault = record { found = FoundFault fault; line = 0; cells = blank; next = st }
-
+-- ---- What a line may give beside: a definition, or a row with its line
 abbrev pub definedOf : State → Stepped
 definedOf next = record { found = Definition; line = 0; cells = blank; next = next }
 
 abbrev pub gaveOf : State → ℕ → List ℤ → Stepped
 gaveOf next line cells = record { found = FoundRow; line = line; cells = cells; next = next }
-
-abbrev pub movedOf : State → Place → State
-movedOf st place = record { place = place; edition = st .edition; seen = st .seen; samples = st .samples }
-
--- ---- Before the first line; the edition is the one of VERSION from there on
-abbrev pub fresh : State
-fresh = record { place = Start; edition = V13; seen = replicate 12 false; samples = 0 }
-
--- ---- "A row due when the file ends answers its number"
-abbrev pub endingOf : Place → Found
-endingOf Start = FoundFault VersionFault
-endingOf (Version due) = FoundFault VersionFault
-endingOf (Section lines) = Nothing
-endingOf (Extensions listed) = Nothing
-endingOf (Head id n) = FoundFault FieldFault
-endingOf Values = Nothing
-endingOf Signature = Nothing
 
 -- ---- "Blank lines count only in shapes."
 unfoldable pub blankStep : State → Place → Stepped
@@ -91,58 +57,6 @@ blankStep st (Extensions listed) = wentOf st
 blankStep st (Head id n) = refusedOf st FieldFault
 blankStep st Values = wentOf (movedOf st (Section Shapes))
 blankStep st Signature = wentOf st
-
--- ---- SECTION: "unknown, repeated, not of this edition, or after `[SIGNATURE]`". VERSION: "first line that counts is not `[VERSION]`"
-unfoldable pub mayEnter : State → ℕ → Bool
-mayEnter st k = hasSection (st .edition) k && not (getD (st .seen) k false)
-
-abbrev pub entered : State → ℕ → Place → State
-entered st k place = record { place = place; edition = st .edition; seen = set (st .seen) k true; samples = st .samples }
-
-unfoldable pub enterOf : State → ℕ → Stepped
-enterOf st k = cond (mayEnter st k) (wentOf (entered st k (placeIn k))) (refusedOf st SectionFault)
-
-unfoldable pub earlySection : State → ℕ → Stepped
-earlySection st k = cond (mayEnter st k) (refusedOf st FieldFault) (refusedOf st SectionFault)
-
-unfoldable pub sectionAt : State → ℕ → Place → Stepped
-sectionAt st k Start = cond (eqb k 1) (wentOf (entered st 1 (Version Major))) (refusedOf st VersionFault)
-sectionAt st k (Version due) = refusedOf st VersionFault
-sectionAt st k (Section lines) = enterOf st k
-sectionAt st k (Extensions listed) = enterOf st k
-sectionAt st k (Head id n) = earlySection st k
-sectionAt st k Values = enterOf st k
-sectionAt st k Signature = refusedOf st SectionFault
-
-unfoldable pub sectionStep : State → List ℕ → Stepped
-sectionStep st line = sectionAt st (sectionNo line) (st .place)
-
--- ---- VERSION: "`major`, `minor`, `revision`, alone and in this order, give no version above; the first number that rules out all four answers"
-unfoldable pub majorWord : List ℕ
-majorWord = 109 ∷ 97 ∷ 106 ∷ 111 ∷ 114 ∷ []
-
-unfoldable pub minorWord : List ℕ
-minorWord = 109 ∷ 105 ∷ 110 ∷ 111 ∷ 114 ∷ []
-
-unfoldable pub revisionWord : List ℕ
-revisionWord = 114 ∷ 101 ∷ 118 ∷ 105 ∷ 115 ∷ 105 ∷ 111 ∷ 110 ∷ []
-
-unfoldable pub versionRow : State → State → Natural → Stepped
-versionRow st next (NaturalValue v) = wentOf next
-versionRow st next NaturalBad = refusedOf st VersionFault
-
--- 3 or 4
-unfoldable pub editionOf : ℕ → Edition
-editionOf minor = cond (eqb minor 3) V13 V14
-
-unfoldable pub minorRow : State → Natural → Stepped
-minorRow st (NaturalValue v) = wentOf (record { place = Version Revision; edition = editionOf v; seen = st .seen; samples = st .samples })
-minorRow st NaturalBad = refusedOf st VersionFault
-
-unfoldable pub versionStep : State → List (List ℕ) → Due → Stepped
-versionStep st fields Major = versionRow st (movedOf st (Version Minor)) (wordNumberOf majorWord 1 1 fields)
-versionStep st fields Minor = minorRow st (wordNumberOf minorWord 3 4 fields)
-versionStep st fields Revision = versionRow st (movedOf st (Section None)) (wordNumberOf revisionWord 0 1 fields)
 
 -- ---- Definitions
 unfoldable pub definitionStep : State → List ℕ → Stepped

@@ -12,7 +12,7 @@ use Rattle.numeral.specs.declared.Number.the-variants.{Value as NumberValue, Ba
 use Rattle.unit.specs.declared.Rasters.{Rasters}
 use Rattle.shape.specs.declared.Edition.{Edition}
 use Rattle.shape.specs.declared.Edition.the-variants.{V13, V14}
-use Rattle.file.specs.Definitions.{definitionsOf, sought, definitionOf}
+use Rattle.definitions.specs.Definitions.{definitionsOf, sought, definitionOf}
 
 -- GradientRasterTime
 unfoldable pub gradientKey : List ℕ

@@ -25,8 +25,8 @@ fn text_of<'a>(edition: Edition, file: &'a [u8], site: &'a [u8], key: &[u8]) -> 
     ensures { λ r. ⌜ now r ≡ textOf edition (now (file .entry)) (now (site .entry)) (now (key .entry)) ⌝ }
 {
     match edition {
-        Edition::V13 => file::definition(file, site, key),
-        Edition::V14 => file::file_definition(file, key),
+        Edition::V13 => definitions::definition(file, site, key),
+        Edition::V14 => definitions::file_definition(file, key),
     }
 }
 

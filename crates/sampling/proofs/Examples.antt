@@ -19,10 +19,12 @@ use Rattle.shape.specs.Alone.{isCount, expandedOf, tableFrom, samplesAfter, tab
 use Rattle.shape.specs.declared.Edition.the-variants.{V13, V14}
 use Rattle.columns.specs.Rows.{padded}
 use Rattle.heads.specs.Heads.{wordNumberOf}
-use Rattle.grammar.specs.Sections.{sectionNames, sectionNo, hasSection, placeIn}
-use Rattle.grammar.specs.Steps.{blankStep, mayEnter, enterOf, sectionAt, sectionStep, majorWord, minorWord, revisionWord, versionRow, editionOf, minorRow, versionStep, shapeIdWord, numSamplesWord, headRow, headStep, countedOf, countRow, countStep, valueRow, linesStep, plainStep, markedStep, stepOf}
+use Rattle.sections.specs.Sections.{sectionNames, sectionNo, hasSection, placeIn}
+use Rattle.grammar.specs.Steps.{blankStep, shapeIdWord, numSamplesWord, headRow, headStep, countedOf, countRow, countStep, valueRow, linesStep, plainStep, markedStep, stepOf}
+use Rattle.sections.specs.Entering.{mayEnter, enterOf, sectionAt, sectionStep}
+use Rattle.sections.specs.Version.{majorWord, minorWord, revisionWord, versionRow, editionOf, minorRow, versionStep}
 use Rattle.file.specs.Whole.{isFault, isRow}
-use Rattle.file.specs.Shapes.{endsShape, valuesText, isShape, storedFrom, storedOf}
+use Rattle.stored.specs.Shapes.{endsShape, valuesText, isShape, storedFrom, storedOf}
 use Rattle.tables.specs.Tables.{firstSuch, numberAt}
 use Rattle.sampling.specs.Sampling.{isShapeRow, textAt, numAt, placeAt, fromAt, roomAt, failed, failsAt, firstFailing, laidAt, laidFrom}
 

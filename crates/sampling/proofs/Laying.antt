@@ -13,7 +13,7 @@ use Rattle.signed.specs.Signed.{sameZ}
 use Rattle.shape.specs.Alone.{expandedOf, tableOf, Expansion}
 use Rattle.shape.specs.declared.Edition.{Edition}
 use Rattle.shape.specs.declared.Expanded.{Expanded}
-use Rattle.file.specs.Shapes.{storedOf}
+use Rattle.stored.specs.Shapes.{storedOf}
 use Rattle.tables.specs.Tables.{firstSuch, numberAt}
 use Rattle.tables.proofs.Found.{such-start, such-here, such-further, such-none}
 use Rattle.sampling.specs.Sampling.{isShapeRow, textAt, numAt, placeAt, fromAt, roomAt, failed, failsAt, firstFailing, laidAt, laidFrom, Sampled}

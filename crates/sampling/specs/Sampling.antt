@@ -16,7 +16,7 @@ use Rattle.shape.specs.Alone.{expandedOf, tableOf}
 use Rattle.shape.specs.declared.Edition.{Edition}
 use Rattle.shape.specs.declared.Expanded.{Expanded}
 use Rattle.shape.specs.declared.Expanded.the-variants.{Samples, Field, Shape, Room}
-use Rattle.file.specs.Shapes.{storedOf}
+use Rattle.stored.specs.Shapes.{storedOf}
 use Rattle.tables.specs.Tables.{firstSuch, numberAt}
 
 -- ---- "11 shape (id, num_samples, first sample's place from 0)"

@@ -41,7 +41,7 @@ fn has_failed(expanded: Expanded) -> bool
 fn expand_shape(file: &[u8], edition: Edition, rows: &[i64], k: usize, samples: &mut [i64]) -> bool
     ensures { λ r. ⌜ ShapeSampled edition (now (file .entry)) (now (rows .entry)) k (now (samples .entry)) r (now (samples .exit)) ⌝ }
 {
-    let stored = file::stored_lines(file, tables::number(rows, k, 1));
+    let stored = stored::stored_lines(file, tables::number(rows, k, 1));
     let num = size_at(rows, k, 2);
     let from = least(size_at(rows, k, 3), samples.len());
     let to = from + least(num, samples.len() - from);

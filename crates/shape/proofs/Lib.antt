@@ -5,4 +5,3 @@ pub mod Judging
 pub mod Moves
 pub mod Answers
 pub mod Unique
-pub mod Marked

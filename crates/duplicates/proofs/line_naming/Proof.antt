@@ -65,7 +65,7 @@ returns-2 c = let d = c .before in
     let e = d .before .before in
     let s = e .before .before in
     let l = s .before .before in
-    naming-hit _ _ _ _ _ _ _ (l .before .before .loop .inv) _ (here l) _ (s .step .ensures) (sym (e .before .is-fault .ensures) ∙ e .if1 .left) (sym (d .names .ensures) ∙ c .if2 .taken)
+    naming-hit _ _ _ _ _ _ _ (l .before .before .loop .inv) _ (here l) _ (s .step .ensures) (sym (e .before .is-fault .ensures) ∙ e .if1 .left) _ (d .names .ensures) (c .if2 .taken)
 
 add-n : tie.Need-add-n Inv-loop μ-loop
 add-n c = let l = c .before .before .before .before .before .before .before in
@@ -80,7 +80,7 @@ loop-again c = let d = c .before .before in
     let e = d .before .before in
     let s = e .before .before in
     let l = s .before .before in
-    naming-turn _ _ _ _ _ _ _ (l .before .before .loop .inv) _ (here l) _ (s .step .ensures) (sym (e .before .is-fault .ensures) ∙ e .if1 .left) (sym (d .names .ensures) ∙ c .before .if2 .left)
+    naming-turn _ _ _ _ _ _ _ (l .before .before .loop .inv) _ (here l) _ (s .step .ensures) (sym (e .before .is-fault .ensures) ∙ e .if1 .left) _ (d .names .ensures) (c .before .if2 .left)
 
 returns-3 : tie.Need-returns-3 Inv-loop μ-loop
 returns-3 c = naming-end _ _ _ _ _ _ _ (c .before .loop .inv) (c .loop-test .left)

@@ -25,7 +25,7 @@ returns c = next-nothing _ _ _ (sym (c .before .before .once-of .ensures) ∙ c 
 
 returns-2 : tie.Need-returns-2
 returns-2 c = let m = c .before .before .before .before in
-    c .line-naming .ensures ∙ rw (c .before .word-of .ensures) (next-word _ _ _ _ (sym (m .before .before .once-of .ensures) ∙ m .sort .given .1))
+    next-word _ _ _ _ (sym (m .before .before .once-of .ensures) ∙ m .sort .given .1) _ (c .before .word-of .ensures) _ (c .line-naming .ensures)
 
 pub met-again-spec : {M : Type 1} → statement M
 met-again-spec =

@@ -3,7 +3,7 @@ use mathlib.Core.Path.{_∙_, _≡_}
 use Rattle.file.specs.Rows.{answerOf}
 use Rattle.file.specs.Whole.{judged, Verdict}
 use Prim.Native.Nat.{ℕ}
-use Rattle.grammar.specs.declared.Found.{Found}
+use Rattle.places.specs.declared.Found.{Found}
 use borrow.Author.Needs.{needs}
 use Rattle.file.proofs.answer.Statement.{statement}
 use Rattle.file.proofs.answer.Tie as tie

@@ -1,6 +1,7 @@
 -- `grammar::blank_step` meets its contract: each place by its own case. Assumes nothing.
-use Rattle.grammar.specs.Steps.{blankStep, wentOf}
-use Rattle.grammar.proofs.Answers.{told}
+use Rattle.grammar.specs.Steps.{blankStep}
+use Rattle.places.specs.Places.{wentOf}
+use Rattle.places.proofs.Answers.{told}
 use mathlib.Core.Path.{ap, _∙_}
 use borrow.Author.Needs.{needs}
 use Rattle.grammar.proofs.blank_step.Statement.{statement}

@@ -1,6 +1,6 @@
 -- `grammar::lines_step` meets its contract: each kind of lines by its own case. Assumes nothing.
 use Rattle.grammar.specs.Steps.{linesStep}
-use Rattle.grammar.proofs.Answers.{told}
+use Rattle.places.proofs.Answers.{told}
 use borrow.Author.Needs.{needs}
 use Rattle.grammar.proofs.lines_step.Statement.{statement}
 use Rattle.grammar.proofs.lines_step.Tie as tie

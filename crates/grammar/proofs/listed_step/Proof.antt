@@ -1,6 +1,6 @@
 -- `grammar::listed_step` meets its contract: each kind of rows by its own case. Assumes nothing.
 use Rattle.grammar.specs.Steps.{listedStep}
-use Rattle.grammar.proofs.Answers.{told}
+use Rattle.places.proofs.Answers.{told}
 use borrow.Author.Needs.{needs}
 use Rattle.grammar.proofs.listed_step.Statement.{statement}
 use Rattle.grammar.proofs.listed_step.Tie as tie

@@ -1,6 +1,7 @@
 -- `grammar::plain_step` meets its contract: each place by its own case. Assumes nothing.
 use Rattle.grammar.specs.Steps.{plainStep}
-use Rattle.grammar.proofs.Answers.{told, count-told}
+use Rattle.places.proofs.Answers.{told}
+use Rattle.grammar.proofs.Answers.{count-told}
 use Rattle.signed.proofs.Machine.{rd-at}
 use Prim.Native.Nat.{_<_, _^_}
 use lib.Signed.{mag}

@@ -1,7 +1,8 @@
 -- `grammar::step` meets its contract: LINE first, then each mark by its own case. Assumes nothing.
 use mathlib.Core.Path.{sym, _∙_}
 use Rattle.grammar.specs.Steps.{markedStep}
-use Rattle.grammar.proofs.Answers.{told, line-broken, line-marked}
+use Rattle.places.proofs.Answers.{told}
+use Rattle.grammar.proofs.Answers.{line-broken, line-marked}
 use borrow.Author.Needs.{needs}
 use Rattle.grammar.proofs.step.Statement.{statement}
 use Rattle.grammar.proofs.step.Tie as tie

@@ -1,7 +1,7 @@
 -- `grammar::value_step` meets its contract. Assumes nothing.
 use mathlib.Core.Path.{sym, _∙_}
 use Rattle.grammar.specs.Steps.{valueRow}
-use Rattle.grammar.proofs.Answers.{told}
+use Rattle.places.proofs.Answers.{told}
 use borrow.Author.Needs.{needs}
 use Rattle.grammar.proofs.value_step.Statement.{statement}
 use Rattle.grammar.proofs.value_step.Tie as tie

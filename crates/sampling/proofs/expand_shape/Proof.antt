@@ -1,7 +1,7 @@
 -- `sampling::expand_shape` meets its contract: a part of the samples is lent and comes back. Assumes nothing.
 use mathlib.Core.Path.{ap, _∙_}
 use Rattle.signed.proofs.Machine.{rd-at}
-use Rattle.file.specs.Shapes.{storedOf}
+use Rattle.stored.specs.Shapes.{storedOf}
 use Rattle.sampling.proofs.Laying.{shape-laid}
 use borrow.Author.Needs.{needs}
 use Rattle.sampling.proofs.expand_shape.Statement.{statement}

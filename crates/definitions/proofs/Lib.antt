@@ -1,0 +1,2 @@
+-- The laws of seeking a key, line by line.
+pub mod Seeking

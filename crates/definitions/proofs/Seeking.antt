@@ -1,0 +1,255 @@
+-- A key sought among definitions, line by line. Assumes nothing.
+use Prim.Native.Nat.{ℕ, _+_, _-_, _≤_, _<_}
+use mathlib.Core.Bool.{Bool, true, false, cond, _&&_, _||_, true≢false}
+use mathlib.Core.List.{List, [], _∷_, _++_}
+use mathlib.Core.Path.{_≡_, refl, sym, ap, _∙_}
+use native.Mathlib.Omega.{arith}
+use borrow.Author.Tests.{ne-eqb, le-leb, lt-ltb, leb-true}
+use lib.Dec.{ltb, leb}
+use lib.ListN.{length, take, drop, length-drop, drop-of-length-le}
+use lib.Seq.{take-all}
+use Rattle.text.specs.Lines.{linesOf}
+use Rattle.text.specs.Marks.{markOf, breaksLine}
+use Rattle.text.specs.Words.{sameBytes}
+use Rattle.text.specs.declared.Line.{Line}
+use Rattle.text.specs.declared.Mark.{Mark}
+use Rattle.text.specs.declared.Mark.the-variants.{Blank, Comment, Section, Plain}
+use Rattle.text.proofs.Cut.{LineAt}
+use Rattle.grammar.specs.Definitions.{keyOf, valueOf, isDefinition}
+use Rattle.places.specs.Places.{fresh}
+use Rattle.grammar.specs.Steps.{stepOf}
+use Rattle.places.specs.declared.Fault.{Fault}
+use Rattle.places.specs.declared.Fault.the-variants.{Line as LineFault, Field as FieldFault}
+use Rattle.places.specs.declared.Found.{Found}
+use Rattle.places.specs.declared.Found.the-variants.{Nothing, Row, Definition as FoundDefinition, Fault as FoundFault}
+use Rattle.places.specs.declared.State.{State}
+use Rattle.places.specs.declared.Stepped.{Stepped}
+use Rattle.file.specs.Whole.{isFault, isDefined}
+use Rattle.definitions.specs.Definitions.{Definition, definitionAt, definitionsFrom, definitionsOf, siteMark, siteLine, siteAt, siteIn, siteDefinitions, anyFault, isNamed, repeats, siteFault, sought, eitherOf}
+use Rattle.file.proofs.Walking.{Within, within-start, within-turn, gathered-turn, gathered-stop, gathered-end}
+
+-- ---- one definition in front of others, or none
+module _ (d : Definition) (rest : List Definition) (key : List ℕ) where
+  hit : (b : Bool) → b && sameBytes (d .key) key ≡ true → d .value ≡ sought key (cond b (d ∷ []) [] ++ rest)
+  unfolding sought
+  hit true e = rw e
+  hit false e = absurd (true≢false (sym e))
+
+  miss : (b : Bool) → b && sameBytes (d .key) key ≡ false → sought key rest ≡ sought key (cond b (d ∷ []) [] ++ rest)
+  unfolding sought
+  miss true e = rw e
+  miss false e = refl
+
+none : (key : List ℕ) → [] ≡ sought key []
+unfolding sought
+none key = refl
+
+-- ---- the loop over a file
+pub record SoughtWalk (file key : List ℕ) (st : State) (at n : ℕ) : Type 0 where
+  pub within : Within file at n
+  pub same : sought key (definitionsFrom st n (linesOf (drop at file))) ≡ sought key (definitionsOf file)
+
+pub sought-start : (file key : List ℕ) (st : State) → st ≡ fresh → SoughtWalk file key st 0 1
+unfolding definitionsOf
+sought-start file key st e = record { within = within-start file; same = rw e }
+
+module _ (file key : List ℕ) (st : State) (at n : ℕ) (w : SoughtWalk file key st at n) where
+  module _ (r : Line) (l : LineAt file at r) (s : Stepped) (p : s ≡ stepOf st n (take (r .stop - at) (drop at file))) where
+    abbrev lineHere : List ℕ
+    lineHere = take (r .stop - at) (drop at file)
+
+    abbrev found : Definition
+    found = record { line = n; key = keyOf lineHere; value = valueOf lineHere }
+
+    pub sought-fault : isFault (s .found) ≡ true → [] ≡ sought key (definitionsOf file)
+    sought-fault e = none key ∙ ap (sought key) (gathered-stop file at r l st n s p definitionAt e) ∙ w .same
+
+    module _ (e : isFault (s .found) ≡ false) where
+      more : sought key (definitionAt n lineHere s ++ definitionsFrom (s .next) (n + 1) (linesOf (drop (r .next) file))) ≡ sought key (definitionsOf file)
+      more = ap (sought key) (gathered-turn file at r l st n s p definitionAt e) ∙ w .same
+
+      pub sought-hit : isDefined (s .found) && sameBytes (keyOf lineHere) key ≡ true → valueOf lineHere ≡ sought key (definitionsOf file)
+      unfolding definitionAt
+      sought-hit h = hit found _ key (isDefined (s .found)) h ∙ more
+
+      pub sought-turn : isDefined (s .found) && sameBytes (keyOf lineHere) key ≡ false → SoughtWalk file key (s .next) (r .next) (n + 1)
+      unfolding definitionAt
+      sought-turn h = record { within = within-turn (w .within) l; same = miss found _ key (isDefined (s .found)) h ∙ more }
+
+  pub sought-end : length file ≤ at → [] ≡ sought key (definitionsOf file)
+  sought-end h = none key ∙ ap (sought key) (gathered-end file at h st n definitionAt) ∙ w .same
+
+-- ---- a line of a site's definitions
+module _ (line : List ℕ) where
+  pub site-broken : breaksLine line ≡ true → FoundFault LineFault ≡ siteLine line
+  unfolding siteLine
+  site-broken e = rw e
+
+  pub site-marked : breaksLine line ≡ false → (m : Mark) → markOf line ≡ m → siteMark line m ≡ siteLine line
+  unfolding siteLine
+  site-marked e m q = rw (e, q)
+
+  pub site-empty : length (valueOf line) ≡ 0 → FoundFault FieldFault ≡ siteMark line Plain
+  unfolding siteMark isDefinition
+  site-empty e = rw e
+
+  pub site-valued : (length (valueOf line) ≡ 0 → ⊥) → FoundDefinition ≡ siteMark line Plain
+  unfolding siteMark isDefinition
+  site-valued e = rw (le-leb 1 (length (valueOf line)) (omega arith))
+
+-- ---- the loop over a site
+module _ (site : List ℕ) (at : ℕ) (r : Line) (l : LineAt site at r) (found : Found) (p : found ≡ siteLine (take (r .stop - at) (drop at site))) where
+  abbrev siteHere : List ℕ
+  siteHere = take (r .stop - at) (drop at site)
+
+  abbrev inFront : Definition
+  inFront = record { line = 0; key = keyOf siteHere; value = valueOf siteHere }
+
+  site-turn : isFault found ≡ false → siteAt siteHere ++ siteIn (linesOf (drop (r .next) site)) ≡ siteIn (linesOf (drop at site))
+  unfolding siteIn
+  site-turn e = rw (l .line, ← p, e)
+
+  site-stop : isFault found ≡ true → [] ≡ siteIn (linesOf (drop at site))
+  unfolding siteIn
+  site-stop e = rw (l .line, ← p, e)
+
+  any-turn : isFault found ≡ false → anyFault (linesOf (drop (r .next) site)) ≡ anyFault (linesOf (drop at site))
+  unfolding anyFault
+  any-turn e = rw (l .line, ← p, e)
+
+  any-stop : isFault found ≡ true → true ≡ anyFault (linesOf (drop at site))
+  unfolding anyFault
+  any-stop e = rw (l .line, ← p, e)
+
+  module _ (key : List ℕ) (w : sought key (siteIn (linesOf (drop at site))) ≡ sought key (siteDefinitions site)) where
+    pub site-fault : isFault found ≡ true → [] ≡ sought key (siteDefinitions site)
+    site-fault e = none key ∙ ap (sought key) (site-stop e) ∙ w
+
+    pub site-hit : isFault found ≡ false → isDefined found && sameBytes (keyOf siteHere) key ≡ true → valueOf siteHere ≡ sought key (siteDefinitions site)
+    unfolding siteAt
+    site-hit e h = hit inFront (siteIn (linesOf (drop (r .next) site))) key (isDefined found) h ∙ ap (λ (f : Found). sought key (cond (isDefined f) (inFront ∷ []) [] ++ siteIn (linesOf (drop (r .next) site)))) p ∙ ap (sought key) (site-turn e) ∙ w
+
+    pub site-miss : isFault found ≡ false → isDefined found && sameBytes (keyOf siteHere) key ≡ false
+        → sought key (siteIn (linesOf (drop (r .next) site))) ≡ sought key (siteDefinitions site)
+    unfolding siteAt
+    site-miss e h = miss inFront (siteIn (linesOf (drop (r .next) site))) key (isDefined found) h ∙ ap (λ (f : Found). sought key (cond (isDefined f) (inFront ∷ []) [] ++ siteIn (linesOf (drop (r .next) site)))) p ∙ ap (sought key) (site-turn e) ∙ w
+
+pub site-start : (site key : List ℕ) → sought key (siteIn (linesOf (drop 0 site))) ≡ sought key (siteDefinitions site)
+unfolding siteDefinitions
+site-start site key = refl
+
+pub site-end : (site key : List ℕ) (at : ℕ) → length site ≤ at → sought key (siteIn (linesOf (drop at site))) ≡ sought key (siteDefinitions site) → [] ≡ sought key (siteDefinitions site)
+unfolding siteIn linesOf
+site-end site key at h w = none key ∙ rw (drop-of-length-le site h) at w
+
+-- ---- of two values the first that is not empty
+pub either-second : (first second : List ℕ) → length first ≡ 0 → second ≡ eitherOf first second
+unfolding eitherOf
+either-second first second e = rw e
+
+pub either-first : (first second : List ℕ) → (length first ≡ 0 → ⊥) → first ≡ eitherOf first second
+unfolding eitherOf
+either-first first second n = rw (ne-eqb (length first) 0 n)
+
+-- ---- a key is named among a site's definitions where its value is not empty
+not-defined : {k : Fault} → FoundFault k ≡ FoundDefinition → ⊥
+not-defined e = let z : _≡_ {A = ℕ} 0 1 = cc in omega arith
+
+nothing-defined : Nothing ≡ FoundDefinition → ⊥
+nothing-defined e = let z : _≡_ {A = ℕ} 0 1 = cc in omega arith
+
+valued : (l : List ℕ) → siteLine l ≡ FoundDefinition → 0 < length (valueOf l)
+unfolding siteLine siteMark isDefinition
+valued l e = broken (breaksLine l) e
+  where
+    plain : (b : Bool) → leb 1 (length (valueOf l)) ≡ b → cond b FoundDefinition (FoundFault FieldFault) ≡ FoundDefinition → 0 < length (valueOf l)
+    plain true q e = leb-true 1 (length (valueOf l)) q
+    plain false q e = absurd (not-defined e)
+
+    marked : (m : Mark) → siteMark l m ≡ FoundDefinition → 0 < length (valueOf l)
+    marked Blank e = absurd (nothing-defined e)
+    marked Comment e = absurd (nothing-defined e)
+    marked Section e = absurd (not-defined e)
+    marked Plain e = plain (leb 1 (length (valueOf l))) refl e
+
+    broken : (b : Bool) → cond b (FoundFault LineFault) (siteMark l (markOf l)) ≡ FoundDefinition → 0 < length (valueOf l)
+    broken true e = absurd (not-defined e)
+    broken false e = marked (markOf l) e
+
+pub named-sought : (key : List ℕ) (ls : List (List ℕ)) → isNamed key (siteIn ls) ≡ ltb 0 (length (sought key (siteIn ls)))
+unfolding siteIn siteAt isNamed sought isFault isDefined
+named-sought key [] = refl
+named-sought key (l ∷ ls) = go (siteLine l) refl (named-sought key ls)
+  where
+    here : (b : Bool) → 0 < length (valueOf l) → isNamed key (siteIn ls) ≡ ltb 0 (length (sought key (siteIn ls)))
+        → b || isNamed key (siteIn ls) ≡ ltb 0 (length (cond b (valueOf l) (sought key (siteIn ls))))
+    here true v h = sym (lt-ltb 0 (length (valueOf l)) v)
+    here false v h = h
+
+    go : (f : Found) → siteLine l ≡ f → isNamed key (siteIn ls) ≡ ltb 0 (length (sought key (siteIn ls)))
+        → isNamed key (cond (isFault f) [] (cond (isDefined f) (record { line = 0; key = keyOf l; value = valueOf l } ∷ []) [] ++ siteIn ls))
+        ≡ ltb 0 (length (sought key (cond (isFault f) [] (cond (isDefined f) (record { line = 0; key = keyOf l; value = valueOf l } ∷ []) [] ++ siteIn ls))))
+    go Nothing e h = h
+    go Row e h = h
+    go FoundDefinition e h = here (sameBytes (keyOf l) key) (valued l e) h
+    go (FoundFault k) e h = refl
+
+-- ---- the loop that looks for a fault
+abbrev pub faultIn : List (List ℕ) → Bool
+faultIn ls = anyFault ls || repeats (siteIn ls)
+
+pub fault-start : (site : List ℕ) → faultIn (linesOf (drop 0 site)) ≡ siteFault site
+unfolding siteFault siteDefinitions
+fault-start site = refl
+
+pub fault-end : (site : List ℕ) (at : ℕ) → length site ≤ at → faultIn (linesOf (drop at site)) ≡ siteFault site → false ≡ siteFault site
+unfolding linesOf anyFault siteIn repeats
+fault-end site at h w = rw (drop-of-length-le site h) at w
+
+or-true : (a : Bool) → true ≡ a || true
+or-true true = refl
+or-true false = refl
+
+module _ (site : List ℕ) (at : ℕ) (r : Line) (l : LineAt site at r) (found : Found) (p : found ≡ siteLine (take (r .stop - at) (drop at site)))
+    (w : faultIn (linesOf (drop at site)) ≡ siteFault site) where
+  pub fault-here : isFault found ≡ true → true ≡ siteFault site
+  fault-here e = ap (λ (b : Bool). b || repeats (siteIn (linesOf (drop at site)))) (any-stop site at r l found p e) ∙ w
+
+  module _ (e : isFault found ≡ false) where
+    abbrev rest : List (List ℕ)
+    rest = linesOf (drop (r .next) site)
+
+    abbrev line : List ℕ
+    line = take (r .stop - at) (drop at site)
+
+    abbrev front : Bool → List Definition
+    front b = cond b (record { line = 0; key = keyOf line; value = valueOf line } ∷ []) []
+
+    -- what the line and the rest give
+    both : anyFault rest || repeats (front (isDefined found) ++ siteIn rest) ≡ siteFault site
+    unfolding siteAt
+    both =
+        ap (λ (b : Bool). b || repeats (front (isDefined found) ++ siteIn rest)) (any-turn site at r l found p e)
+        ∙ ap (λ (f : Found). anyFault (linesOf (drop at site)) || repeats (front (isDefined f) ++ siteIn rest)) p
+        ∙ ap (λ (ds : List Definition). anyFault (linesOf (drop at site)) || repeats ds) (site-turn site at r l found p e)
+        ∙ w
+
+    pub fault-again : isDefined found && isNamed (keyOf line) (siteIn rest) ≡ true → true ≡ siteFault site
+    unfolding repeats
+    fault-again h = go (isDefined found) h ∙ both
+      where
+        go : (b : Bool) → b && isNamed (keyOf line) (siteIn rest) ≡ true → true ≡ anyFault rest || repeats (front b ++ siteIn rest)
+        go true h = rw h (or-true (anyFault rest))
+        go false h = absurd (true≢false (sym h))
+
+    pub fault-turn : isDefined found && isNamed (keyOf line) (siteIn rest) ≡ false → faultIn rest ≡ siteFault site
+    unfolding repeats
+    fault-turn h = go (isDefined found) h ∙ both
+      where
+        go : (b : Bool) → b && isNamed (keyOf line) (siteIn rest) ≡ false → faultIn rest ≡ anyFault rest || repeats (front b ++ siteIn rest)
+        go true h = rw h
+        go false h = refl
+
+-- the rest of a text, as a part of it
+pub rest-is : (site : List ℕ) (next : ℕ) → take (length site - next) (drop next site) ≡ drop next site
+rest-is site next = take-all (length site - next) (drop next site) (let l = length-drop next site in omega arith)

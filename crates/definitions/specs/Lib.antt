@@ -1,0 +1,2 @@
+-- What must be believed of the definitions of a file and of a site.
+pub mod Definitions

@@ -1,0 +1,140 @@
+// The definitions of a file and of a site: the value of a key, and whether a site's text is at fault.
+ghost use mathlib.Core.Path.{_≡_};
+ghost use mathlib.Core.Bool.{_&&_};
+ghost use Rattle.text.specs.Words.{sameBytes};
+ghost use Rattle.grammar.specs.Definitions.{keyOf};
+ghost use Rattle.file.specs.Whole.{isDefined};
+ghost use Rattle.definitions.specs.Definitions.{definitionsOf, siteLine, siteDefinitions, siteFault, isNamed, sought, definitionOf};
+use places::Fault;
+use places::Found;
+use text::Mark;
+
+// Is this a definition?
+fn is_defined(found: Found) -> bool
+    ensures { λ r. ⌜ r ≡ isDefined found ⌝ }
+{
+    match found {
+        Found::Nothing => false,
+        Found::Row => false,
+        Found::Definition => true,
+        Found::Fault(_) => false,
+    }
+}
+
+// Is this line, which gave what was found, a definition of the key?
+fn defines(line: &[u8], found: Found, key: &[u8]) -> bool
+    ensures { λ r. ⌜ r ≡ isDefined found && sameBytes (keyOf (now (line .entry))) (now (key .entry)) ⌝ }
+{
+    if is_defined(found) {
+        return text::same(text::field(line, 0), key);
+    }
+    false
+}
+
+// The value of a key in a file; empty if it is not defined there.
+pub fn file_definition<'a>(file: &'a [u8], key: &[u8]) -> &'a [u8]
+    ensures { λ r. ⌜ now r ≡ sought (now (key .entry)) (definitionsOf (now (file .entry))) ⌝ }
+{
+    let mut st = places::start();
+    let mut at: usize = 0;
+    let mut n: usize = 1;
+    while at < file.len() {
+        let line = text::next_line(file, at);
+        let stop = line.stop;
+        let did = grammar::step(st, n, &file[at..stop]);
+        let found = did.found;
+        if file::is_fault(found) {
+            return &file[..0];
+        }
+        if defines(&file[at..stop], found, key) {
+            return grammar::value(&file[at..stop]);
+        }
+        n += 1;
+        at = line.next;
+        let next = did.next;
+        st = next;
+    }
+    &file[..0]
+}
+
+// What a line of a site's definitions is.
+fn site_line(line: &[u8]) -> Found
+    ensures { λ r. ⌜ r ≡ siteLine (now (line .entry)) ⌝ }
+{
+    if text::breaks_line(line) {
+        return Found::Fault(Fault::Line);
+    }
+    match text::mark_of(line) {
+        Mark::Blank => Found::Nothing,
+        Mark::Comment => Found::Nothing,
+        Mark::Section => Found::Fault(Fault::Section),
+        Mark::Plain => {
+            if grammar::value(line).len() == 0 {
+                return Found::Fault(Fault::Field);
+            }
+            Found::Definition
+        }
+    }
+}
+
+// The value of a key in a site's definitions; empty if it is not defined there.
+pub fn site_definition<'a>(site: &'a [u8], key: &[u8]) -> &'a [u8]
+    ensures { λ r. ⌜ now r ≡ sought (now (key .entry)) (siteDefinitions (now (site .entry))) ⌝ }
+{
+    let mut at: usize = 0;
+    while at < site.len() {
+        let line = text::next_line(site, at);
+        let stop = line.stop;
+        let found = site_line(&site[at..stop]);
+        if file::is_fault(found) {
+            return &site[..0];
+        }
+        if defines(&site[at..stop], found, key) {
+            return grammar::value(&site[at..stop]);
+        }
+        at = line.next;
+    }
+    &site[..0]
+}
+
+// Does this line, which is what was found, define a key that the rest defines again?
+fn repeats(line: &[u8], found: Found, rest: &[u8]) -> bool
+    ensures { λ r. ⌜ r ≡ isDefined found && isNamed (keyOf (now (line .entry))) (siteDefinitions (now (rest .entry))) ⌝ }
+{
+    if is_defined(found) {
+        return 0 < site_definition(rest, text::field(line, 0)).len();
+    }
+    false
+}
+
+// Are a site's definitions at fault?
+pub fn site_fault(site: &[u8]) -> bool
+    ensures { λ r. ⌜ r ≡ siteFault (now (site .entry)) ⌝ }
+{
+    let mut at: usize = 0;
+    while at < site.len() {
+        let line = text::next_line(site, at);
+        let stop = line.stop;
+        let next = line.next;
+        let found = site_line(&site[at..stop]);
+        if file::is_fault(found) {
+            return true;
+        }
+        if repeats(&site[at..stop], found, &site[next..]) {
+            return true;
+        }
+        at = next;
+    }
+    false
+}
+
+// The value of a key: the file's, else the site's; empty if neither defines it.
+pub fn definition<'a>(file: &'a [u8], site: &'a [u8], key: &[u8]) -> &'a [u8]
+    ensures { λ r. ⌜ now r ≡ definitionOf (now (file .entry)) (now (site .entry)) (now (key .entry)) ⌝ }
+{
+    let value = file_definition(file, key);
+    if value.len() == 0 {
+        return site_definition(site, key);
+    }
+    value
+}

@@ -1,0 +1,2 @@
+-- The paper's marked examples, shown of the definitions.
+pub mod Marked

@@ -1,0 +1,2 @@
+-- What must be believed of where a file stands.
+pub mod Places

@@ -1,0 +1,3 @@
+-- The laws of section lines, and what several proofs use.
+pub mod Sections
+pub mod Answers

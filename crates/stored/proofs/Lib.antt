@@ -1,0 +1,2 @@
+-- The laws of the stored lines of a shape.
+pub mod Stored

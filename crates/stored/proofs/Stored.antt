@@ -1,0 +1,144 @@
+-- The stored lines of a shape, line by line. Assumes nothing.
+use Prim.Native.Nat.{ℕ, _+_, _-_, _≤_}
+use mathlib.Core.Bool.{Bool, true, false, cond}
+use mathlib.Core.List.{List, [], _∷_, _++_, append-assoc}
+use mathlib.Core.Path.{_≡_, refl, sym, ap, _∙_}
+use native.Mathlib.Numerals.{add-one}
+use native.Mathlib.Omega.{arith}
+use lib.Dec.{eqb}
+use lib.IntN.{ℤ, pos}
+use lib.ListN.{length, getD, take, drop, length-take, length-drop, length-append, drop-of-length-le}
+use lib.Seq.{take-append-seam}
+use Rattle.text.specs.Lines.{wholeLinesOf, bareOf, onto}
+use Rattle.text.specs.Marks.{markOf}
+use Rattle.text.specs.declared.Line.{Line}
+use Rattle.text.proofs.Cut.{LineAt, WholeAt}
+use Rattle.signed.specs.Signed.{sameZ}
+use Rattle.places.specs.Places.{fresh}
+use Rattle.grammar.specs.Steps.{stepOf}
+use Rattle.places.specs.declared.Found.{Found}
+use Rattle.places.specs.declared.State.{State}
+use Rattle.places.specs.declared.Stepped.{Stepped}
+use Rattle.file.specs.Whole.{isFault, isRow, rowCount}
+use Rattle.stored.specs.Shapes.{endsShape, valuesText, isShape, storedFrom, storedOf}
+use Rattle.file.proofs.Laying.{row-one, row-none, count-most}
+use Rattle.file.proofs.Walking.{Within, within-start, within-turn}
+
+-- ---- the row of a shape
+row-zero : (f : Found) → rowCount f ≡ 0 → isRow f ≡ false
+row-zero f e = row-none f (λ (q : rowCount f ≡ 1). omega arith)
+
+row-some : (f : Found) → (rowCount f ≡ 0 → ⊥) → isRow f ≡ true
+row-some f n = let m = count-most f in row-one f (omega arith)
+
+module _ (id : ℤ) (s : Stepped) (count : ℕ) (p : count ≡ rowCount (s .found)) where
+  pub shape-none : count ≡ 0 → false ≡ isShape id s
+  unfolding isShape
+  shape-none e = rw (row-zero (s .found) (sym p ∙ e))
+
+  module _ (n : count ≡ 0 → ⊥) where
+    pub shape-other : sameZ (getD (s .cells) 0 (pos 0)) (pos 11) ≡ false → false ≡ isShape id s
+    unfolding isShape
+    shape-other e = rw (row-some (s .found) (λ q. n (p ∙ q)), e)
+
+    pub shape-same : sameZ (getD (s .cells) 0 (pos 0)) (pos 11) ≡ true → sameZ (getD (s .cells) 1 (pos 0)) id ≡ isShape id s
+    unfolding isShape
+    shape-same e = rw (row-some (s .found) (λ q. n (p ∙ q)), e)
+
+-- ---- lines with their ends are the text
+unfoldable joinedLines : List (List ℕ) → List ℕ
+joinedLines [] = []
+joinedLines (w ∷ ws) = w ++ joinedLines ws
+
+onto-joined : (c : ℕ) (ws : List (List ℕ)) → joinedLines (onto c ws) ≡ c ∷ joinedLines ws
+unfolding onto joinedLines
+onto-joined c [] = refl
+onto-joined c (w ∷ ws) = refl
+
+whole-joined : (s : List ℕ) → joinedLines (wholeLinesOf s) ≡ s
+unfolding wholeLinesOf joinedLines
+whole-joined [] = refl
+whole-joined (c ∷ s) = go (eqb c 10) (whole-joined s)
+  where
+    go : (b : Bool) → joinedLines (wholeLinesOf s) ≡ s → joinedLines (cond b ((c ∷ []) ∷ wholeLinesOf s) (onto c (wholeLinesOf s))) ≡ c ∷ s
+    go true h = ap (λ (t : List ℕ). c ∷ t) h
+    go false h = onto-joined c (wholeLinesOf s) ∙ ap (λ (t : List ℕ). c ∷ t) h
+
+-- the stored lines are what a text begins with
+unfoldable rest-of : List (List ℕ) → List ℕ
+rest-of [] = []
+rest-of (w ∷ ws) = cond (endsShape (markOf (bareOf w))) (joinedLines (w ∷ ws)) (rest-of ws)
+
+values-first : (ws : List (List ℕ)) → valuesText ws ++ rest-of ws ≡ joinedLines ws
+unfolding valuesText rest-of joinedLines
+values-first [] = refl
+values-first (w ∷ ws) = go (endsShape (markOf (bareOf w))) (values-first ws)
+  where
+    go : (b : Bool) → valuesText ws ++ rest-of ws ≡ joinedLines ws → cond b [] (w ++ valuesText ws) ++ cond b (w ++ joinedLines ws) (rest-of ws) ≡ w ++ joinedLines ws
+    go true h = refl
+    go false h = append-assoc w (valuesText ws) (rest-of ws) ∙ ap (λ (t : List ℕ). w ++ t) h
+
+abbrev pub storedLen : List ℕ → ℕ
+storedLen s = length (valuesText (wholeLinesOf s))
+
+all-of : (s : List ℕ) → valuesText (wholeLinesOf s) ++ rest-of (wholeLinesOf s) ≡ s
+all-of s = values-first (wholeLinesOf s) ∙ whole-joined s
+
+pub stored-prefix : (s : List ℕ) → take (storedLen s) s ≡ valuesText (wholeLinesOf s)
+stored-prefix s = ap (take (storedLen s)) (sym (all-of s)) ∙ take-append-seam (valuesText (wholeLinesOf s)) (rest-of (wholeLinesOf s))
+
+pub stored-le : (s : List ℕ) → storedLen s ≤ length s
+stored-le s = let e = sym (ap length (all-of s)) ∙ length-append (valuesText (wholeLinesOf s)) (rest-of (wholeLinesOf s)) in omega arith
+
+-- ---- the loop to their end
+module _ (file : List ℕ) (at : ℕ) (r : Line) (w : WholeAt file at r) where
+  pub stored-stop : endsShape (markOf (take (r .stop - at) (drop at file))) ≡ true → 0 ≡ storedLen (drop at file)
+  unfolding valuesText
+  stored-stop e = rw (w .whole, w .bare, e)
+
+  pub stored-more : at ≤ r .next → r .next ≤ length file → endsShape (markOf (take (r .stop - at) (drop at file))) ≡ false
+      → r .next + storedLen (drop (r .next) file) ≡ at + storedLen (drop at file)
+  unfolding valuesText
+  stored-more h i e =
+      let l : length (take (r .next - at) (drop at file)) ≡ r .next - at = (let m = length-take (r .next - at) (drop at file) in let k = length-drop at file in omega arith) in
+      rw (w .whole, w .bare, e, length-append (take (r .next - at) (drop at file)) (valuesText (wholeLinesOf (drop (r .next) file))), l) (omega arith)
+
+pub stored-none : (file : List ℕ) (at : ℕ) → length file ≤ at → 0 ≡ storedLen (drop at file)
+unfolding valuesText wholeLinesOf
+stored-none file at h = rw (drop-of-length-le file h)
+
+-- ---- the loop to the shape
+pub record ShapeWalk (file : List ℕ) (id : ℤ) (st : State) (at n : ℕ) : Type 0 where
+  pub within : Within file at n
+  pub same : storedFrom id st n (wholeLinesOf (drop at file)) ≡ storedOf file id
+
+pub shape-start : (file : List ℕ) (id : ℤ) (st : State) → st ≡ fresh → ShapeWalk file id st 0 1
+unfolding storedOf
+shape-start file id st e = record { within = within-start file; same = rw e }
+
+module _ (file : List ℕ) (id : ℤ) (st : State) (at n : ℕ) (k : ShapeWalk file id st at n) where
+  module _ (r : Line) (l : LineAt file at r) (w : WholeAt file at r) (s : Stepped) (p : s ≡ stepOf st n (take (r .stop - at) (drop at file))) where
+    pub shape-fault : isFault (s .found) ≡ true → [] ≡ storedOf file id
+    unfolding storedFrom
+    shape-fault e = rw (w .whole, w .bare, ← p, e) at (k .same)
+
+    module _ (e : isFault (s .found) ≡ false) where
+      pub shape-hit : isShape id s ≡ true → valuesText (wholeLinesOf (drop (r .next) file)) ≡ storedOf file id
+      unfolding storedFrom
+      shape-hit f = rw (w .whole, w .bare, ← p, e, f) at (k .same)
+
+      pub shape-turn : isShape id s ≡ false → ShapeWalk file id (s .next) (r .next) (n + 1)
+      unfolding storedFrom
+      shape-turn f = record { within = within-turn (k .within) l; same = rw (add-one n) (rw (w .whole, w .bare, ← p, e, f) at (k .same)) }
+
+  pub shape-end : length file ≤ at → [] ≡ storedOf file id
+  unfolding storedFrom wholeLinesOf
+  shape-end h = rw (drop-of-length-le file h) at (k .same)
+
+-- ---- the part that is handed back
+module _ (file : List ℕ) (from : ℕ) where
+  pub behind-le : from ≤ length file → (stop : ℕ) → stop ≡ from + storedLen (drop from file) → stop ≤ length file
+  behind-le h stop e = let a = stored-le (drop from file) in let b = length-drop from file in omega arith
+
+  pub behind-text : (stop : ℕ) → stop ≡ from + storedLen (drop from file) → take (stop - from) (drop from file) ≡ valuesText (wholeLinesOf (drop from file))
+  behind-text stop e = let k : stop - from ≡ storedLen (drop from file) = omega arith in rw k (stored-prefix (drop from file))

@@ -1,0 +1,2 @@
+-- What must be believed of the stored lines of a shape.
+pub mod Shapes
