@@ -1,25 +1,24 @@
 -- The largest that a number of a row in range can be, by its column. Assumes nothing.
-use Prim.Native.Nat.{ℕ, zero, suc, _+_, _-_, _^_, _≤_}
+use Prim.Native.Nat.{ℕ, zero, suc, _-_, _^_, _≤_}
 use mathlib.Core.Bool.{Bool, true, false, cond, true≢false}
-use mathlib.Core.List.{List, [], _∷_, _++_}
+use mathlib.Core.List.{List, [], _∷_}
 use mathlib.Core.Path.{_≡_, refl, sym, ap, _∙_}
 use native.Mathlib.Omega.{arith}
 use native.Mathlib.Nat.{le-refl}
 use lib.Dec.{eqb}
 use lib.IntN.{ℤ, pos, natAbs}
-use lib.ListN.{length, getD, drop, replicate}
-use lib.Seq.{sets, sets-eq}
+use lib.ListN.{getD}
 use Rattle.shape.specs.declared.Edition.{Edition}
 use Rattle.columns.specs.Columns.{columnsOf, formNumber, mostOf, widthOf}
-use Rattle.columns.specs.Rows.{blank, padded}
 use Rattle.columns.specs.Ranges.{InRange, no-more, no-field, one-number, two-numbers}
 use Rattle.columns.specs.declared.Kind.{Kind}
 use Rattle.columns.specs.declared.Form.{Form}
 use Rattle.columns.specs.declared.Form.the-variants.{Block, Rf, Gradient, Trap, Adc, Delay, Entry, Trigger}
 use Rattle.columns.proofs.Back.{whole-width}
-use Rattle.columns.proofs.Zeros.{padded-own, row-short}
+use Rattle.columns.proofs.Zeros.{row-short}
 use Rattle.file_laws.specs.Ranges.{RowIn, by-columns, extension, label, shape}
 use Rattle.tables.specs.Tables.{numberAt}
+use Rattle.file_laws.proofs.Padded.{kind-first, own-number}
 use Rattle.exact_lengths.specs.Tables.{RowHeld}
 
 -- ---- number c behind the kind, by the columns; a mantissa is below 10^18
@@ -43,26 +42,6 @@ in-most (one-number {k} e l m r) (suc (suc c)) = rw (whole-width k e) (in-most r
 in-most (two-numbers k r) zero = let d = k .digits in omega arith
 in-most (two-numbers k r) (suc zero) = let d = k .power in omega arith
 in-most (two-numbers k r) (suc (suc c)) = in-most r c
-
--- ---- a padded row: its kind, and what stands behind
-getD-zeros : (vs : List ℤ) (m c : ℕ) → getD (vs ++ replicate m (pos 0)) c (pos 0) ≡ getD vs c (pos 0)
-getD-zeros [] zero c = refl
-getD-zeros [] (suc m) zero = refl
-getD-zeros [] (suc m) (suc c) = getD-zeros [] m c
-getD-zeros (v ∷ vs) m zero = refl
-getD-zeros (v ∷ vs) m (suc c) = getD-zeros vs m c
-
-behind : (cells : List ℤ) (c : ℕ) → getD cells (suc c) (pos 0) ≡ getD (drop 1 cells) c (pos 0)
-behind [] c = refl
-behind (v ∷ cells) c = refl
-
-module _ (kind : ℕ) (vs : List ℤ) (h : length vs ≤ 11) where
-  kind-first : getD (padded kind vs) 0 (pos 0) ≡ pos kind
-  unfolding padded
-  kind-first = ap (λ (l : List ℤ). getD l 0 (pos 0)) (sets-eq (pos kind ∷ vs) blank 0 (omega arith))
-
-  own-number : (c : ℕ) → getD (padded kind vs) (suc c) (pos 0) ≡ getD vs c (pos 0)
-  own-number c = behind (padded kind vs) c ∙ ap (λ (l : List ℤ). getD l c (pos 0)) (padded-own kind vs h) ∙ getD-zeros vs (11 - length vs) c
 
 -- ---- a form by its number
 abbrev formBy : ℕ → Form

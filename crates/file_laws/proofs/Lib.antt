@@ -1,5 +1,7 @@
--- The rows of a file are in range, its samples are few, reading it has one outcome; worked examples.
+-- The rows of a file are in range, its shapes stand one behind the other, its samples are few, reading it has one outcome; worked examples.
+pub mod Padded
 pub mod Steps
 pub mod Ranges
+pub mod Stacking
 pub mod Unique
 pub mod Examples

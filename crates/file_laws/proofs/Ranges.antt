@@ -20,7 +20,7 @@ use Rattle.file_laws.proofs.Steps.{HeadIn, Fine, step-fine}
 use Rattle.file.specs.Whole.{Verdict, ended, stopped, judged, verdictFrom, verdictOf, isFault, isRow, gathered}
 use Rattle.file.specs.Rows.{Placed, rowAt, rowsFrom, rowsOf}
 
-not-ended : {f : Fault} {n : ℕ} {st : State} → stopped f n ≡ ended st → ⊥
+pub not-ended : {f : Fault} {n : ℕ} {st : State} → stopped f n ≡ ended st → ⊥
 not-ended e = let z : _≡_ {A = ℕ} 0 1 = cc in omega arith
 
 same-end : {a b : State} → ended a ≡ ended b → a ≡ b
@@ -31,7 +31,7 @@ record Left (edition : Edition) (st : State) (rs : List Placed) : Type 0 where
   rows : AllIn edition rs
   same : isPast (st .place) ≡ true → st .edition ≡ edition
 
-at-end : (st fin : State) (f : Found) → judged f 0 (ended st) ≡ ended fin → st ≡ fin
+pub at-end : (st fin : State) (f : Found) → judged f 0 (ended st) ≡ ended fin → st ≡ fin
 unfolding judged
 at-end st fin Nothing e = same-end e
 at-end st fin Row e = same-end e
@@ -78,7 +78,7 @@ few-from st fin n (l ∷ ls) h e =
     on Definition e = e
     on (FoundFault f) e = absurd (not-ended e)
 
-lines-few : (t : List ℕ) → length (linesOf t) ≤ length t
+pub lines-few : (t : List ℕ) → length (linesOf t) ≤ length t
 unfolding linesOf onto
 lines-few [] = omega arith
 lines-few (c ∷ s) = go (eqb c 10) (eqb c 13 && startsLF s) (lines-few s)

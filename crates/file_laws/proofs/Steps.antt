@@ -1,17 +1,18 @@
 -- The rows that lines give are in range, and the edition stays what VERSION says. Assumes nothing.
 use Prim.Native.Nat.{ℕ, _+_, _≤_, min}
 use mathlib.Core.Bool.{Bool, true, false, cond, true≢false}
-use mathlib.Core.List.{List}
+use mathlib.Core.List.{List, [], _∷_}
 use mathlib.Core.Option.{Option, none, some}
 use mathlib.Core.Path.{_≡_, refl, sym, _∙_}
 use native.Mathlib.Omega.{arith}
 use lib.Dec.{eqb}
-use lib.IntN.{ℤ, pos}
+use lib.IntN.{ℤ, pos, natAbs}
+use lib.ListN.{length, getD}
 use Rattle.text.specs.Fields.{fieldsOf}
 use Rattle.text.specs.Marks.{markOf, breaksLine}
 use Rattle.text.specs.declared.Mark.{Mark}
 use Rattle.text.specs.declared.Mark.the-variants.{Blank, Comment, Section as SectionLine, Plain}
-use Rattle.signed.specs.Signed.{largest}
+use Rattle.signed.specs.Signed.{sameZ, largest}
 use Rattle.numeral.specs.Integer.{largestId}
 use Rattle.numeral.specs.declared.Natural.{Natural}
 use Rattle.numeral.specs.declared.Natural.the-variants.{Value as NaturalValue, Bad as NaturalBad}
@@ -21,8 +22,9 @@ use Rattle.shape.specs.declared.Item.the-variants.{Value as ItemValue, Skipped,
 use Rattle.columns.specs.Columns.{columnsOf, formNumber}
 use Rattle.columns.specs.Rows.{rowFrom, padded, rowIs}
 use Rattle.columns.specs.declared.Form.{Form}
-use Rattle.columns.specs.declared.Form.the-variants.{Entry, Trigger}
+use Rattle.columns.specs.declared.Form.the-variants.{Block, Rf, Gradient, Trap, Adc, Delay, Entry, Trigger}
 use Rattle.columns.proofs.Ranges.{row-in-range}
+use Rattle.columns.proofs.Zeros.{row-short}
 use Rattle.heads.specs.Heads.{labelOf, extensionOf, wordNumberOf}
 use Rattle.heads.specs.declared.Head.{Head as HeadLine}
 use Rattle.heads.specs.declared.Head.the-variants.{Label, Extension, Bad as HeadBad}
@@ -33,6 +35,8 @@ use Rattle.places.specs.Places.{wentOf, refusedOf, movedOf}
 use Rattle.grammar.specs.Steps.{definedOf, gaveOf, blankStep, definitionStep, givenRow, rowStep, labelRow, labelStep, listedOf, extensionRow, extensionStep, isExtension, listedStep, extensionsStep, shapeIdWord, numSamplesWord, headRow, headStep, countedOf, countRow, countStep, valueRow, linesStep, plainStep, markedStep, stepOf}
 use Rattle.sections.specs.Entering.{mayEnter, entered, enterOf, earlySection, sectionAt, sectionStep}
 use Rattle.sections.specs.Version.{majorWord, minorWord, revisionWord, versionRow, editionOf, minorRow, versionStep}
+use Rattle.file_laws.specs.Stacked.{isShapeOf, samplesIn}
+use Rattle.file_laws.proofs.Padded.{kind-first, own-number}
 use Rattle.file_laws.specs.Ranges.{RowIn, by-columns, extension, label, shape, isPast}
 use Rattle.places.specs.declared.Due.{Due}
 use Rattle.places.specs.declared.Due.the-variants.{Major, Minor, Revision}
@@ -44,6 +48,7 @@ use Rattle.places.specs.declared.Place.{Place}
 use Rattle.places.specs.declared.Place.the-variants.{Start, Version, Section, Extensions, Head, Values, Signature}
 use Rattle.places.specs.declared.Fault.{Fault}
 use Rattle.places.specs.declared.Fault.the-variants.{Line as LineFault, Version as VersionFault, Section as SectionFault, Field as FieldFault}
+use Rattle.places.specs.declared.Found.{Found}
 use Rattle.places.specs.declared.Found.the-variants.{Nothing, Row as FoundRow, Definition, Fault as FoundFault}
 use Rattle.places.specs.declared.State.{State}
 use Rattle.places.specs.declared.Stepped.{Stepped}
@@ -64,6 +69,18 @@ HeadIn (Head z n) = IdIn z
 HeadIn Values = Unit
 HeadIn Signature = Unit
 
+-- ---- what a line gives to the samples: only a row of a shape gives some, and its place is where they begin
+abbrev pub given : Found → List ℤ → ℕ
+given Nothing cells = 0
+given FoundRow cells = samplesIn cells
+given Definition cells = 0
+given (FoundFault f) cells = 0
+
+pub record Stack (st : State) (r : Stepped) : Type 0 where
+  pub place : r .found ≡ FoundRow → isShapeOf (r .cells) ≡ true → st .samples ≤ largest → natAbs (getD (r .cells) 3 (pos 0)) ≡ st .samples
+  pub after : st .samples + given (r .found) (r .cells) ≤ largest → r .next .samples ≡ st .samples + given (r .found) (r .cells)
+  pub some : given (r .found) (r .cells) ≤ 1000000
+
 -- ---- a line is fine: the row that it gives is in range, and the state behind it is sound
 pub record Fine (st : State) (r : Stepped) : Type 0 where
   pub row : r .found ≡ FoundRow → RowIn (st .edition) (r .cells)
@@ -72,6 +89,7 @@ pub record Fine (st : State) (r : Stepped) : Type 0 where
   pub same : isPast (st .place) ≡ true → r .next .edition ≡ st .edition
   pub past : isPast (st .place) ≡ true → isPast (r .next .place) ≡ true
   pub few : r .next .samples ≤ st .samples + 1000000
+  pub stack : Stack st r
 
 nothing-row : Nothing ≡ FoundRow → ⊥
 nothing-row e = let z : _≡_ {A = ℕ} 0 1 = cc in omega arith
@@ -114,25 +132,82 @@ place-past k =
     (pick Past (eqb k 8) _ _ refl
     (pick Past (eqb k 9) _ _ refl (pick Past (eqb k 10) _ _ refl refl))))))))
 
+-- a shape is the kind that it says, and no other kind is one; rows with columns are none
+kind-shape : (kind : ℕ) (vs : List ℤ) → length vs ≤ 11 → isShapeOf (padded kind vs) ≡ eqb kind 11
+unfolding sameZ
+kind-shape kind vs h = rw (kind-first kind vs h)
+
+form-no-shape : (form : Form) (vs : List ℤ) → length vs ≤ 11 → isShapeOf (padded (formNumber form) vs) ≡ false
+unfolding sameZ
+form-no-shape form vs h = rw (kind-first (formNumber form) vs h) (by-form form)
+  where
+    by-form : (form : Form) → sameZ (pos (formNumber form)) (pos 11) ≡ false
+    by-form Block = refl
+    by-form Rf = refl
+    by-form Gradient = refl
+    by-form Trap = refl
+    by-form Adc = refl
+    by-form Delay = refl
+    by-form Entry = refl
+    by-form Trigger = refl
+
+shape-samples : (vs : List ℤ) → length vs ≤ 11 → (num : ℕ) → getD vs 1 (pos 0) ≡ pos num → samplesIn (padded 11 vs) ≡ num
+unfolding samplesIn
+shape-samples vs h num e = rw (kind-shape 11 vs h, own-number 11 vs h 1, e)
+
 module _ (st : State) where
   fine-went : (next : State) → HeadIn (next .place) → (isPast (st .place) ≡ true → next .edition ≡ st .edition)
       → (isPast (st .place) ≡ true → isPast (next .place) ≡ true) → next .samples ≡ st .samples → Fine st (wentOf next)
-  fine-went next h s p q = record { row = λ e. absurd (nothing-row e); known = λ e. absurd (nothing-row e); head = h; same = s; past = p; few = omega arith }
+  fine-went next h s p q = record { row = λ e. absurd (nothing-row e); known = λ e. absurd (nothing-row e); head = h; same = s; past = p; few = omega arith; stack = record { place = λ e. absurd (nothing-row e); after = λ m. omega arith; some = omega arith } }
 
   module _ (h : HeadIn (st .place)) where
     fine-stay : Fine st (wentOf st)
     fine-stay = fine-went st h (λ e. refl) (λ e. e) refl
 
     fine-refused : (f : Fault) → Fine st (refusedOf st f)
-    fine-refused f = record { row = λ e. absurd (fault-row e); known = λ e. absurd (fault-row e); head = h; same = λ e. refl; past = λ e. e; few = omega arith }
+    fine-refused f =
+        record {
+          row = λ e. absurd (fault-row e);
+          known = λ e. absurd (fault-row e);
+          head = h;
+          same = λ e. refl;
+          past = λ e. e;
+          few = omega arith;
+          stack = record { place = λ e. absurd (fault-row e); after = λ m. omega arith; some = omega arith };
+        }
 
     fine-defined : Fine st (definedOf st)
-    fine-defined = record { row = λ e. absurd (definition-row e); known = λ e. absurd (definition-row e); head = h; same = λ e. refl; past = λ e. e; few = omega arith }
+    fine-defined =
+        record {
+          row = λ e. absurd (definition-row e);
+          known = λ e. absurd (definition-row e);
+          head = h;
+          same = λ e. refl;
+          past = λ e. e;
+          few = omega arith;
+          stack = record { place = λ e. absurd (definition-row e); after = λ m. omega arith; some = omega arith };
+        }
 
     -- a row, where the file stands behind VERSION
     fine-gave : isPast (st .place) ≡ true → (next : State) → HeadIn (next .place) → next .edition ≡ st .edition → isPast (next .place) ≡ true → next .samples ≤ st .samples + 1000000 → (n : ℕ) (cells : List ℤ)
-        → RowIn (st .edition) cells → Fine st (gaveOf next n cells)
-    fine-gave p next k s q m n cells i = record { row = λ e. i; known = λ e. p; head = k; same = λ e. s; past = λ e. q; few = m }
+        → RowIn (st .edition) cells → Stack st (gaveOf next n cells) → Fine st (gaveOf next n cells)
+    fine-gave p next k s q m n cells i t = record { row = λ e. i; known = λ e. p; head = k; same = λ e. s; past = λ e. q; few = m; stack = t }
+
+    -- a row that is no shape, and the row of a shape
+    stack-other : (next : State) → next .samples ≡ st .samples → (n : ℕ) (cells : List ℤ) → isShapeOf cells ≡ false → Stack st (gaveOf next n cells)
+    unfolding samplesIn
+    stack-other next q n cells f = record { place = λ e g. absurd (true≢false (sym g ∙ f)); after = λ m. rw f (omega arith); some = rw f (omega arith) }
+
+    stack-shape : (next : State) (z : ℤ) (num : ℕ) → next .samples ≡ min (st .samples + num) largest → num ≤ 1000000 → (n : ℕ)
+        → Stack st (gaveOf next n (padded 11 (z ∷ pos num ∷ pos (min (st .samples) largest) ∷ [])))
+    stack-shape next z num q few n =
+        let vs = z ∷ pos num ∷ pos (min (st .samples) largest) ∷ [] in
+        let many : samplesIn (padded 11 vs) ≡ num = shape-samples vs (omega arith) num refl in
+        record {
+          place = λ e g (m : st .samples ≤ largest). rw (own-number 11 vs (omega arith) 2) (omega arith);
+          after = λ m. omega arith;
+          some = omega arith;
+        }
 
     -- ---- blank lines and sections
     fine-enter : (k : ℕ) → Fine st (enterOf st k)
@@ -227,6 +302,7 @@ module _ (st : State) where
           go : (o : Option (List ℤ)) → rowFrom (columnsOf (st .edition) form) fields ≡ o → Fine st (givenRow st n (rowIs form o))
           go none e = fine-refused FieldFault
           go (some vs) e = fine-gave p st h refl p (omega arith) n (padded (formNumber form) vs) (by-columns form vs (row-in-range (columnsOf (st .edition) form) fields vs e))
+              (stack-other st refl n (padded (formNumber form) vs) (form-no-shape form vs (row-short (st .edition) form (row-in-range (columnsOf (st .edition) form) fields vs e))))
 
       fine-label : (n : ℕ) (increment : Bool) (fields : List (List ℕ)) → Fine st (labelStep st n increment fields)
       unfolding labelStep labelRow
@@ -240,6 +316,7 @@ module _ (st : State) where
           go (Label id v k) e =
               let r = label-range (st .edition) increment fields id v k e in
               fine-gave p st h refl p (omega arith) n _ (label id (cond increment 1 0) k v (r .0) (r .1) (flag increment) (r .2) (r .3) (r .4))
+              (stack-other st refl n _ (kind-shape 10 (pos id ∷ pos (cond increment 1 0) ∷ v ∷ pos k ∷ []) (omega arith)))
           go (Extension type code) e = fine-refused FieldFault
           go HeadBad e = fine-refused FieldFault
 
@@ -251,6 +328,7 @@ module _ (st : State) where
           go (Extension type code) e =
               let r = extension-range fields type code e in
               fine-gave p (movedOf st (Extensions (listedOf code))) tt refl refl (omega arith) n _ (extension type code (r .0) (r .1) (r .2))
+              (stack-other (movedOf st (Extensions (listedOf code))) refl n _ (kind-shape 8 (pos type ∷ pos code ∷ []) (omega arith)))
           go (Label id v k) e = fine-refused FieldFault
           go HeadBad e = fine-refused FieldFault
 
@@ -286,7 +364,7 @@ module _ (st : State) where
           go : (v : Natural) → wordNumberOf numSamplesWord 1 1000000 fields ≡ v → Fine st (countRow st z n v)
           go (NaturalValue num) e =
               let r = word-range numSamplesWord 1 1000000 fields num e in
-              fine-gave p (countedOf st num) tt refl refl (omega (arith, r .1)) n _ (rw (i .same) (shape (i .id) num (min (st .samples) largest) (i .least) (i .most) (r .0) (r .1) (omega arith)))
+              fine-gave p (countedOf st num) tt refl refl (omega (arith, r .1)) n _ (rw (i .same) (shape (i .id) num (min (st .samples) largest) (i .least) (i .most) (r .0) (r .1) (omega arith))) (stack-shape (countedOf st num) z num refl (r .1) n)
           go NaturalBad e = fine-refused FieldFault
 
       fine-lines : (n : ℕ) (line : List ℕ) (lines : Lines) → Fine st (linesStep st n line lines)

@@ -1,2 +1,3 @@
--- What it means that the rows of a file are in range.
+-- What it means that the rows of a file are in range, and that its shapes stand one behind the other.
 pub mod Ranges
+pub mod Stacked

@@ -1,0 +1,2 @@
+-- The row of a file by its number.
+pub mod Tables
