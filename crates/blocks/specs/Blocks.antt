@@ -36,8 +36,8 @@ referenceLength q rows n samples class id =
 
 -- ---- The longest event of block k: of its numbers 2 to 8, those that refer to something
 unfoldable pub longestOf : (ℕ → ℕ) → ℕ → ℕ → ℕ
-longestOf length c zero = 0
-longestOf length c (suc m) = max (length c) (longestOf length (suc c) m)
+longestOf lasts c zero = 0
+longestOf lasts c (suc m) = max (lasts c) (longestOf lasts (suc c) m)
 
 unfoldable pub numberLength : Edition → Rasters → List ℤ → ℕ → List ℤ → ℕ → ℕ → ℕ
 numberLength e q rows n samples k c = referenceLength q rows n samples (refAt e rows n k c) (numberAt rows k c)

@@ -16,7 +16,7 @@ unfoldable pub allUnit : List ℤ → Bool
 allUnit [] = true
 allUnit (z ∷ zs) = leb (natAbs z) one && allUnit zs
 
--- ---- "a time shape has the amplitude's count, whole, nonnegative, strictly rising": each behind the one before, the first behind -1
+-- ---- "a time shape has the amplitude's count, whole, nonnegative, strictly rising": each behind the one before, the first behind -1 step
 unfoldable pub followsOf : ℤ → ℤ → Bool
 followsOf last z = ltZ last z && eqb (natAbs z % one) 0
 

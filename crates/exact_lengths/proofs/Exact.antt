@@ -29,8 +29,8 @@ use Rattle.exact_lengths.specs.Tables.{RowHeld, SamplesIn, TablesIn}
 use Rattle.exact_lengths.proofs.Most.{mostAt, number-most, count-most}
 
 -- ---- no event and no block of a table in range is longer than 2 * 10^15 ns, about 23 days
-abbrev pub farthest : ℕ
-farthest = 2000000000000000
+abbrev pub mostEver : ℕ
+mostEver = 2000000000000000
 
 -- ---- parts of samples
 take-in : (m : ℕ) (l : List ℤ) → SamplesIn l → SamplesIn (take m l)
@@ -101,7 +101,7 @@ module _ (e : Edition) (q : Rasters) (rows : List ℤ) (n : ℕ) (samples : List
 
   -- ---- one row
   module _ (k : ℕ) (held : RowHeld e rows k) where
-    shaped-most : (c delay raster : ℕ) → natAbs (numberAt rows k delay) ≤ 10 ^ 9 → raster ≤ 10 ^ 6 → shapedLength rows n samples k c delay raster ≤ farthest
+    shaped-most : (c delay raster : ℕ) → natAbs (numberAt rows k delay) ≤ 10 ^ 9 → raster ≤ 10 ^ 6 → shapedLength rows n samples k c delay raster ≤ mostEver
     unfolding shapedLength microsAt
     shaped-most c delay raster d r =
         let m : stepsAt rows n samples k c * raster ≤ 1000000000000 = mul-le-mul (steps-few k c) r in omega arith
@@ -122,7 +122,7 @@ module _ (e : Edition) (q : Rasters) (rows : List ℤ) (n : ℕ) (samples : List
         by-edition V13 h = h
         by-edition V14 h = h
 
-    trap-most : numberAt rows k 0 ≡ pos 4 → trapLength rows k ≤ farthest
+    trap-most : numberAt rows k 0 ≡ pos 4 → trapLength rows k ≤ mostEver
     unfolding trapLength microsAt columnsOf
     trap-most p =
         let a : natAbs (numberAt rows k 4) ≤ 10 ^ 9 = number-most e Trap 3 rows k held p in
@@ -131,7 +131,7 @@ module _ (e : Edition) (q : Rasters) (rows : List ℤ) (n : ℕ) (samples : List
         let d : natAbs (numberAt rows k 7) ≤ 10 ^ 9 = number-most e Trap 6 rows k held p in
         omega arith
 
-    adc-most : numberAt rows k 0 ≡ pos 5 → adcLength rows k ≤ farthest
+    adc-most : numberAt rows k 0 ≡ pos 5 → adcLength rows k ≤ mostEver
     unfolding adcLength microsAt columnsOf
     adc-most p =
         let num : natAbs (numberAt rows k 2) ≤ 10 ^ 6 = number-most e Adc 1 rows k held p in
@@ -140,69 +140,69 @@ module _ (e : Edition) (q : Rasters) (rows : List ℤ) (n : ℕ) (samples : List
         let m : natAbs (numberAt rows k 2) * natAbs (numberAt rows k 3) ≤ 1000000000000000 = mul-le-mul num dwell in
         omega arith
 
-    delay-most : numberAt rows k 0 ≡ pos 6 → microsAt rows k 2 ≤ farthest
+    delay-most : numberAt rows k 0 ≡ pos 6 → microsAt rows k 2 ≤ mostEver
     unfolding microsAt columnsOf
     delay-most p = let a : natAbs (numberAt rows k 2) ≤ 10 ^ 9 = number-most e Delay 1 rows k held p in omega arith
 
-    trigger-most : numberAt rows k 0 ≡ pos 9 → microsAt rows k 4 + microsAt rows k 5 ≤ farthest
+    trigger-most : numberAt rows k 0 ≡ pos 9 → microsAt rows k 4 + microsAt rows k 5 ≤ mostEver
     unfolding microsAt columnsOf
     trigger-most p =
         let a : natAbs (numberAt rows k 4) ≤ 10 ^ 9 = number-most e Trigger 3 rows k held p in
         let b : natAbs (numberAt rows k 5) ≤ 10 ^ 9 = number-most e Trigger 4 rows k held p in
         omega arith
 
-    length-held : lengthAt q rows n samples k ≤ farthest
+    length-held : lengthAt q rows n samples k ≤ mostEver
     unfolding lengthAt lengthOf
     length-held =
         let kind = numberAt rows k 0 in
-        by-test (sameZ kind (pos 2)) _ _ farthest (λ x. shaped-most 6 7 (q .rf .0) (rf-delay (sameZ-true kind (pos 2) x)) (t .rasters .rf))
-        (λ a. by-test (sameZ kind (pos 3)) _ _ farthest (λ x. shaped-most 5 6 (q .gradient .0) (gradient-delay (sameZ-true kind (pos 3) x)) (t .rasters .gradient))
-        (λ b. by-test (sameZ kind (pos 4)) _ _ farthest (λ x. trap-most (sameZ-true kind (pos 4) x))
-        (λ c. by-test (sameZ kind (pos 5)) _ _ farthest (λ x. adc-most (sameZ-true kind (pos 5) x))
-        (λ d. by-test (sameZ kind (pos 6)) _ _ farthest (λ x. delay-most (sameZ-true kind (pos 6) x))
-        (λ f. by-test (sameZ kind (pos 9)) _ _ farthest (λ x. trigger-most (sameZ-true kind (pos 9) x)) (λ g. omega arith))))))
+        by-test (sameZ kind (pos 2)) _ _ mostEver (λ x. shaped-most 6 7 (q .rf .0) (rf-delay (sameZ-true kind (pos 2) x)) (t .rasters .rf))
+        (λ a. by-test (sameZ kind (pos 3)) _ _ mostEver (λ x. shaped-most 5 6 (q .gradient .0) (gradient-delay (sameZ-true kind (pos 3) x)) (t .rasters .gradient))
+        (λ b. by-test (sameZ kind (pos 4)) _ _ mostEver (λ x. trap-most (sameZ-true kind (pos 4) x))
+        (λ c. by-test (sameZ kind (pos 5)) _ _ mostEver (λ x. adc-most (sameZ-true kind (pos 5) x))
+        (λ d. by-test (sameZ kind (pos 6)) _ _ mostEver (λ x. delay-most (sameZ-true kind (pos 6) x))
+        (λ f. by-test (sameZ kind (pos 9)) _ _ mostEver (λ x. trigger-most (sameZ-true kind (pos 9) x)) (λ g. omega arith))))))
 
   -- ---- each event of the table
-  pub length-most : (k : ℕ) → k < n → lengthAt q rows n samples k ≤ farthest
+  pub length-most : (k : ℕ) → k < n → lengthAt q rows n samples k ≤ mostEver
   length-most k h = length-held k (t .each k h)
 
-  met-most : (class id : ℤ) → metLength q rows n samples class id ≤ farthest
+  met-most : (class id : ℤ) → metLength q rows n samples class id ≤ mostEver
   unfolding metLength
   met-most class id =
-      by-test (ltb (metRow rows n class id) n) _ _ farthest (λ x. length-most (metRow rows n class id) (ltb-true (metRow rows n class id) n x)) (λ x. omega arith)
+      by-test (ltb (metRow rows n class id) n) _ _ mostEver (λ x. length-most (metRow rows n class id) (ltb-true (metRow rows n class id) n x)) (λ x. omega arith)
 
-  chain-most : (left k : ℕ) → chainLength q rows n samples left k ≤ farthest
+  chain-most : (left k : ℕ) → chainLength q rows n samples left k ≤ mostEver
   unfolding chainLength entryLength
   chain-most zero k = omega arith
   chain-most (suc left) k =
       let own = met-most _ _ in
       let rest = chain-most left (nextEntry rows n k) in
-      by-test (ltb k n) _ _ farthest (λ x. both _ _ own rest) (λ x. omega arith)
+      by-test (ltb k n) _ _ mostEver (λ x. both _ _ own rest) (λ x. omega arith)
     where
-      both : (a b : ℕ) → a ≤ farthest → b ≤ farthest → max a b ≤ farthest
+      both : (a b : ℕ) → a ≤ mostEver → b ≤ mostEver → max a b ≤ mostEver
       both a b x y = omega arith
 
-  reference-most : (class id : ℤ) → referenceLength q rows n samples class id ≤ farthest
+  reference-most : (class id : ℤ) → referenceLength q rows n samples class id ≤ mostEver
   unfolding referenceLength
   reference-most class id =
-      by-test (sameZ class (pos 7)) _ _ farthest (λ x. chain-most 256 (metRow rows n class id)) (λ x. met-most class id)
+      by-test (sameZ class (pos 7)) _ _ mostEver (λ x. chain-most 256 (metRow rows n class id)) (λ x. met-most class id)
 
-  longest-most : (f : ℕ → ℕ) → ((c : ℕ) → f c ≤ farthest) → (c m : ℕ) → longestOf f c m ≤ farthest
+  longest-most : (f : ℕ → ℕ) → ((c : ℕ) → f c ≤ mostEver) → (c m : ℕ) → longestOf f c m ≤ mostEver
   unfolding longestOf
   longest-most f h c zero = omega arith
   longest-most f h c (suc m) = let a = h c in let b = longest-most f h (suc c) m in omega arith
 
-  pub event-most : (edition : Edition) (k : ℕ) → longestEvent edition q rows n samples k ≤ farthest
+  pub event-most : (edition : Edition) (k : ℕ) → longestEvent edition q rows n samples k ≤ mostEver
   unfolding longestEvent numberLength
   event-most edition k = longest-most _ (λ c. reference-most (refAt edition rows n k c) (numberAt rows k c)) 2 7
 
   -- ---- each block
-  pub block-most : (k : ℕ) → k < n → numberAt rows k 0 ≡ pos 1 → blockLength e q rows n samples k ≤ farthest
+  pub block-most : (k : ℕ) → k < n → numberAt rows k 0 ≡ pos 1 → blockLength e q rows n samples k ≤ mostEver
   unfolding blockLength columnsOf
   block-most k h p = by-edition e (number-most e Block 1 rows k (t .each k h) p) (event-most V13 k)
     where
-      by-edition : (e : Edition) → natAbs (numberAt rows k 2) ≤ mostAt (columnsOf e Block) 1 → longestEvent V13 q rows n samples k ≤ farthest
-          → blockLength e q rows n samples k ≤ farthest
+      by-edition : (e : Edition) → natAbs (numberAt rows k 2) ≤ mostAt (columnsOf e Block) 1 → longestEvent V13 q rows n samples k ≤ mostEver
+          → blockLength e q rows n samples k ≤ mostEver
       by-edition V13 d l = l
       by-edition V14 d l = let m : natAbs (numberAt rows k 2) * q .block .0 ≤ 1000000000000000 = mul-le-mul d (t .rasters .block) in omega arith
 

@@ -35,7 +35,7 @@ use Rattle.places.specs.Places.{wentOf, refusedOf, movedOf}
 use Rattle.grammar.specs.Steps.{definedOf, gaveOf, blankStep, definitionStep, givenRow, rowStep, labelRow, labelStep, listedOf, extensionRow, extensionStep, isExtension, listedStep, extensionsStep, shapeIdWord, numSamplesWord, headRow, headStep, countedOf, countRow, countStep, valueRow, linesStep, plainStep, markedStep, stepOf}
 use Rattle.sections.specs.Entering.{mayEnter, entered, enterOf, earlySection, sectionAt, sectionStep}
 use Rattle.sections.specs.Version.{majorWord, minorWord, revisionWord, versionRow, editionOf, minorRow, versionStep}
-use Rattle.file_laws.specs.Stacked.{isShapeOf, samplesIn}
+use Rattle.file_laws.specs.Stacked.{isShapeOf, shapeCount}
 use Rattle.file_laws.proofs.Padded.{kind-first, own-number}
 use Rattle.file_laws.specs.Ranges.{RowIn, by-columns, extension, label, shape, isPast}
 use Rattle.places.specs.declared.Due.{Due}
@@ -72,7 +72,7 @@ HeadIn Signature = Unit
 -- ---- what a line gives to the samples: only a row of a shape gives some, and its place is where they begin
 abbrev pub given : Found → List ℤ → ℕ
 given Nothing cells = 0
-given FoundRow cells = samplesIn cells
+given FoundRow cells = shapeCount cells
 given Definition cells = 0
 given (FoundFault f) cells = 0
 
@@ -151,8 +151,8 @@ form-no-shape form vs h = rw (kind-first (formNumber form) vs h) (by-form form)
     by-form Entry = refl
     by-form Trigger = refl
 
-shape-samples : (vs : List ℤ) → length vs ≤ 11 → (num : ℕ) → getD vs 1 (pos 0) ≡ pos num → samplesIn (padded 11 vs) ≡ num
-unfolding samplesIn
+shape-samples : (vs : List ℤ) → length vs ≤ 11 → (num : ℕ) → getD vs 1 (pos 0) ≡ pos num → shapeCount (padded 11 vs) ≡ num
+unfolding shapeCount
 shape-samples vs h num e = rw (kind-shape 11 vs h, own-number 11 vs h 1, e)
 
 module _ (st : State) where
@@ -195,14 +195,14 @@ module _ (st : State) where
 
     -- a row that is no shape, and the row of a shape
     stack-other : (next : State) → next .samples ≡ st .samples → (n : ℕ) (cells : List ℤ) → isShapeOf cells ≡ false → Stack st (gaveOf next n cells)
-    unfolding samplesIn
+    unfolding shapeCount
     stack-other next q n cells f = record { place = λ e g. absurd (true≢false (sym g ∙ f)); after = λ m. rw f (omega arith); some = rw f (omega arith) }
 
     stack-shape : (next : State) (z : ℤ) (num : ℕ) → next .samples ≡ min (st .samples + num) largest → num ≤ 1000000 → (n : ℕ)
         → Stack st (gaveOf next n (padded 11 (z ∷ pos num ∷ pos (min (st .samples) largest) ∷ [])))
     stack-shape next z num q few n =
         let vs = z ∷ pos num ∷ pos (min (st .samples) largest) ∷ [] in
-        let many : samplesIn (padded 11 vs) ≡ num = shape-samples vs (omega arith) num refl in
+        let many : shapeCount (padded 11 vs) ≡ num = shape-samples vs (omega arith) num refl in
         record {
           place = λ e g (m : st .samples ≤ largest). rw (own-number 11 vs (omega arith) 2) (omega arith);
           after = λ m. omega arith;

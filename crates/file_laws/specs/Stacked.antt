@@ -13,11 +13,11 @@ abbrev pub isShapeOf : List ℤ → Bool
 isShapeOf cells = sameZ (getD cells 0 (pos 0)) (pos shapeKind)
 
 -- how many samples a row has: a shape as many as it says, any other none
-unfoldable pub samplesIn : List ℤ → ℕ
-samplesIn cells = cond (isShapeOf cells) (natAbs (getD cells 2 (pos 0))) 0
+unfoldable pub shapeCount : List ℤ → ℕ
+shapeCount cells = cond (isShapeOf cells) (natAbs (getD cells 2 (pos 0))) 0
 
 -- ---- The samples of some rows go from one place to another: each shape's begin where those before it end
 pub data Stacked : ℕ → ℕ → List Placed → Type 0 where
   no-row : {s : ℕ} → Stacked s s []
   one-row : {s e : ℕ} {r : Placed} {rs : List Placed} → (isShapeOf (r .cells) ≡ true → natAbs (getD (r .cells) 3 (pos 0)) ≡ s)
-      → Stacked (s + samplesIn (r .cells)) e rs → Stacked s e (r ∷ rs)
+      → Stacked (s + shapeCount (r .cells)) e rs → Stacked s e (r ∷ rs)

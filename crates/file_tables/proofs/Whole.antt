@@ -18,7 +18,7 @@ use Rattle.file.specs.Whole.{ended, verdictOf}
 use Rattle.file.specs.Rows.{Placed, rowsOf, laidRows}
 use Rattle.sampling.specs.Sampling.{isShapeRow, numAt, placeAt, Apart}
 use Rattle.file_laws.specs.Ranges.{RowIn, by-columns, extension, label, shape, AllIn, no-rows, one-more}
-use Rattle.file_laws.specs.Stacked.{isShapeOf, samplesIn, Stacked}
+use Rattle.file_laws.specs.Stacked.{isShapeOf, shapeCount, Stacked}
 use Rattle.file_laws.specs.Stacked as stacked
 use Rattle.file_laws.proofs.Ranges.{rows-in-range}
 use Rattle.file_laws.proofs.Stacking.{rows-stacked}
@@ -73,14 +73,14 @@ stack-low (stacked.one-row p t) zero h f = let q = p f in omega arith
 stack-low (stacked.one-row p t) (suc k) h f = let q = stack-low t k (omega arith) f in omega arith
 
 stack-high : {s e : ℕ} {rs : List Placed} → Stacked s e rs → (k : ℕ) → k < length rs → isShapeOf (cellsOf rs k) ≡ true
-    → natAbs (getD (cellsOf rs k) 3 (pos 0)) + samplesIn (cellsOf rs k) ≤ e
+    → natAbs (getD (cellsOf rs k) 3 (pos 0)) + shapeCount (cellsOf rs k) ≤ e
 unfolding cellsOf
 stack-high stacked.no-row k h f = absurd (omega arith)
 stack-high (stacked.one-row p t) zero h f = let q = p f in let u = stack-up t in omega arith
 stack-high (stacked.one-row p t) (suc k) h f = stack-high t k (omega arith) f
 
 stack-apart : {s e : ℕ} {rs : List Placed} → Stacked s e rs → (j k : ℕ) → j < k → k < length rs → isShapeOf (cellsOf rs j) ≡ true → isShapeOf (cellsOf rs k) ≡ true
-    → natAbs (getD (cellsOf rs j) 3 (pos 0)) + samplesIn (cellsOf rs j) ≤ natAbs (getD (cellsOf rs k) 3 (pos 0))
+    → natAbs (getD (cellsOf rs j) 3 (pos 0)) + shapeCount (cellsOf rs j) ≤ natAbs (getD (cellsOf rs k) 3 (pos 0))
 unfolding cellsOf
 stack-apart stacked.no-row j k b h f g = absurd (omega arith)
 stack-apart (stacked.one-row p t) j zero b h f g = absurd (omega arith)
@@ -104,8 +104,8 @@ module _ (file : List ℕ) (st : State) (table : List ℤ) (e : verdictOf file �
     unfolding placeAt
     place-is = ap natAbs (held k 3 h (omega arith))
 
-    num-is : numAt rows k ≡ samplesIn (cellsOf (rowsOf file) k)
-    unfolding numAt samplesIn
+    num-is : numAt rows k ≡ shapeCount (cellsOf (rowsOf file) k)
+    unfolding numAt shapeCount
     num-is = rw is-shape (ap natAbs (held k 2 h (omega arith)))
 
     -- the samples of each shape lie among those that were counted
