@@ -71,9 +71,9 @@ fn show_samples(samples: &[i64]) {
 // Expands a million stored values: run-length in 1.3, plain in 1.4, and one too many in 1.3.
 fn expand_million(stored: &mut [u8], samples: &mut [i64]) {
     fill(stored);
-    show(shape::expand(stored, 1000000, Edition::V13, samples));
-    show(shape::expand(stored, 1000000, Edition::V14, samples));
-    show(shape::expand(stored, 999999, Edition::V13, samples));
+    show(expanding::expand(stored, 1000000, Edition::V13, samples));
+    show(expanding::expand(stored, 1000000, Edition::V14, samples));
+    show(expanding::expand(stored, 999999, Edition::V13, samples));
 }
 
 // Lends the two arrays as slices.
@@ -90,8 +90,8 @@ fn million_values() {
 
 // Expands one run of a million samples.
 fn expand_repeats(stored: &[u8], samples: &mut [i64]) {
-    show(shape::expand(stored, 1000000, Edition::V13, samples));
-    show(shape::expand(stored, 1000000, Edition::V14, samples));
+    show(expanding::expand(stored, 1000000, Edition::V13, samples));
+    show(expanding::expand(stored, 1000000, Edition::V14, samples));
 }
 
 // A million repeats, with room for a thousand samples.
@@ -103,7 +103,7 @@ fn million_repeats() {
 // Expands four hundred thousand stored values, and tells what their samples are.
 fn expand_whole(stored: &mut [u8], samples: &mut [i64]) {
     fill(stored);
-    show(shape::expand(stored, 400000, Edition::V13, samples));
+    show(expanding::expand(stored, 400000, Edition::V13, samples));
     show_samples(samples);
 }
 

@@ -14,7 +14,8 @@ use Rattle.numeral.specs.Integer.{inRange, signedAs}
 use Rattle.numeral.specs.Decimal.{upTo, whole, fraction, digits, isMantissa, mantissaPart, exponentPart, isExponent, exponentOf, stripIn, stripFrom, kept, inLimits, isUnsigned, keptOf, decimalOf, sameDecimal}
 use Rattle.numeral.specs.Worth.{wholeAt, wholeOf, nearest, roundAt, roundedOf}
 use Rattle.shape.specs.Stored.{numberItem, fieldsItem, markItem, itemOf, isSound, allSound, withItem, valuesIn}
-use Rattle.shape.specs.Expand.{repeated, counted, freshOf, sumTo, addOf, thenSum, sumsOf, plainOf, isPlain, traceOf, samplesIn, endsWell, expandsTo, expansionOf}
+use Rattle.shape.specs.Samples.{sumTo, addOf, isPlain}
+use Rattle.expanding.specs.Expand.{repeated, counted, freshOf, thenSum, sumsOf, plainOf, traceOf, samplesIn, endsWell, expandsTo, expansionOf}
 use Rattle.shape.specs.declared.Edition.{Edition}
 use Rattle.shape.specs.declared.Edition.the-variants.{V13, V14}
 use Rattle.unit.specs.declared.Rasters.{Rasters}

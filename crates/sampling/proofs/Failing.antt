@@ -11,8 +11,8 @@ use lib.ListN.{length, replicate, length-append, length-replicate}
 use Rattle.text.specs.Lines.{linesOf}
 use Rattle.text.proofs.Cases.{and-both}
 use Rattle.shape.specs.Stored.{allSound, valuesOf}
-use Rattle.shape.specs.Expand.{samplesIn, endsWell, expandsTo, expansionOf}
-use Rattle.shape.specs.Alone.{isCount, expandedOf, tableFrom, samplesAfter, tableOf}
+use Rattle.expanding.specs.Expand.{samplesIn, endsWell, expandsTo, expansionOf}
+use Rattle.expanding.specs.Alone.{isCount, expandedOf, tableFrom, samplesAfter, tableOf}
 use Rattle.shape.specs.declared.Edition.{Edition}
 use Rattle.shape.specs.declared.Expanded.{Expanded}
 use Rattle.shape.specs.declared.Expanded.the-variants.{Samples, Field, Shape, Room}

@@ -10,7 +10,7 @@ use lib.IntN.{ℤ, pos, natAbs}
 use lib.ListN.{length, take, drop}
 use lib.Seq.{sets, sets-eq, drop-drop}
 use Rattle.signed.specs.Signed.{sameZ}
-use Rattle.shape.specs.Alone.{expandedOf, tableOf, Expansion}
+use Rattle.expanding.specs.Alone.{expandedOf, tableOf, Expansion}
 use Rattle.shape.specs.declared.Edition.{Edition}
 use Rattle.shape.specs.declared.Expanded.{Expanded}
 use Rattle.stored.specs.Shapes.{storedOf}

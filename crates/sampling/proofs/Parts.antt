@@ -14,8 +14,8 @@ use lib.Seq.{sets, sets-eq, length-sets, length-take-le, take-at, drop-at, take-
 use Rattle.text.specs.Lines.{linesOf}
 use Rattle.text.proofs.Cases.{lt-or-ge, and-both}
 use Rattle.shape.specs.Stored.{allSound}
-use Rattle.shape.specs.Expand.{samplesIn, expandsTo}
-use Rattle.shape.specs.Alone.{isCount, tableOf}
+use Rattle.expanding.specs.Expand.{samplesIn, expandsTo}
+use Rattle.expanding.specs.Alone.{isCount, tableOf}
 use Rattle.shape.specs.declared.Edition.{Edition}
 use Rattle.tables.proofs.Found.{first-is}
 use Rattle.sampling.specs.Sampling.{isShapeRow, textAt, numAt, placeAt, expansionAt, fromAt, roomAt, failsAt, firstFailing, laidAt, laidFrom, Sampled, Apart, Outside}

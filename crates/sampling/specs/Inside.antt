@@ -6,7 +6,7 @@ use mathlib.Core.Path.{_≡_}
 use lib.IntN.{ℤ}
 use lib.ListN.{length}
 use lib.Seq.{sets}
-use Rattle.shape.specs.Alone.{expandedOf, tableOf}
+use Rattle.expanding.specs.Alone.{expandedOf, tableOf}
 use Rattle.shape.specs.declared.Edition.{Edition}
 use Rattle.sampling.specs.Sampling.{textAt, numAt, fromAt, roomAt, failed, failsAt, laidAt}
 

@@ -11,8 +11,8 @@ use lib.Seq.{sets}
 use Rattle.signed.specs.Signed.{sameZ}
 use Rattle.columns.specs.Columns.{shapeKind}
 use Rattle.shape.specs.Stored.{valuesOf}
-use Rattle.shape.specs.Expand.{Trace, expansionOf}
-use Rattle.shape.specs.Alone.{expandedOf, tableOf}
+use Rattle.expanding.specs.Expand.{Trace, expansionOf}
+use Rattle.expanding.specs.Alone.{expandedOf, tableOf}
 use Rattle.shape.specs.declared.Edition.{Edition}
 use Rattle.shape.specs.declared.Expanded.{Expanded}
 use Rattle.shape.specs.declared.Expanded.the-variants.{Samples, Field, Shape, Room}

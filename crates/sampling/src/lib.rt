@@ -45,7 +45,7 @@ fn expand_shape(file: &[u8], edition: Edition, rows: &[i64], k: usize, samples: 
     let num = size_at(rows, k, 2);
     let from = least(size_at(rows, k, 3), samples.len());
     let to = from + least(num, samples.len() - from);
-    has_failed(shape::expand(stored, num, edition, &mut samples[from..to]))
+    has_failed(expanding::expand(stored, num, edition, &mut samples[from..to]))
 }
 
 // Expands row k, if it is a shape. Has it failed?

@@ -1,7 +1,4 @@
--- The laws of stored lines and of expanding them; the marked examples; that the outcome is unique.
+-- The laws of stored lines, counted and looked into, and of a value added to a sum.
 pub mod Items
-pub mod Passing
-pub mod Judging
-pub mod Moves
-pub mod Answers
-pub mod Unique
+pub mod Counting
+pub mod Adding

@@ -1,5 +1,4 @@
--- What must be believed of stored lines and of expanding them, in the paper's order; then what the inner functions answer.
+-- What must be believed of stored lines, of values made samples, and of what expanding can answer, in the paper's order.
 pub mod Stored
-pub mod Expand
-pub mod Alone
-pub mod Inside
+pub mod Samples
+pub mod Answers

@@ -2,6 +2,7 @@
 use Prim.Native.Nat.{ℕ}
 use mathlib.Core.Bool.{Bool, true, false, cond, _&&_}
 use mathlib.Core.List.{List, [], _∷_}
+use lib.ListN.{length, drop}
 use Rattle.text.specs.Lines.{linesOf}
 use Rattle.text.specs.Marks.{markOf, breaksLine}
 use Rattle.text.specs.Fields.{fieldsOf}
@@ -11,6 +12,8 @@ use Rattle.numeral.specs.Decimal.{decimalOf}
 use Rattle.numeral.specs.declared.Decimal.{Decimal}
 use Rattle.numeral.specs.declared.Number.{Number}
 use Rattle.numeral.specs.declared.Number.the-variants.{Value as NumberValue, Bad as NumberBad}
+use Rattle.shape.specs.declared.Count.{Count}
+use Rattle.shape.specs.declared.Count.the-variants.{Values, Faulty}
 use Rattle.shape.specs.declared.Item.{Item}
 use Rattle.shape.specs.declared.Item.the-variants.{Value, Skipped, Bad}
 
@@ -56,3 +59,11 @@ valuesIn (l ∷ ls) = withItem (itemOf l) (valuesIn ls)
 -- the stored values of a text
 unfoldable pub valuesOf : List ℕ → List Decimal
 valuesOf text = valuesIn (linesOf text)
+
+-- those left from a place on
+abbrev pub valuesAt : List ℕ → ℕ → List Decimal
+valuesAt text from = valuesOf (drop from text)
+
+-- how many there are, or that a line is at fault
+unfoldable pub countOf : List ℕ → Count
+countOf text = cond (allSound (linesOf text)) (Values (length (valuesOf text))) Faulty

@@ -1,16 +1,11 @@
-// Shapes: the stored lines of one expanded into its samples, exactly as its edition says.
+// The parts of a shape: the editions, what a stored line holds, how many values the lines hold, whether these are the samples themselves, the
+// sample that a value makes of the sum so far, and what expanding can answer.
 ghost use mathlib.Core.Path.{_≡_};
-ghost use Prim.Native.Nat.{_≤_};
-ghost use lib.IntN.{pos};
-ghost use lib.ListN.{set};
 ghost use Rattle.text.specs.Fields.{fieldsOf};
-ghost use Rattle.text.specs.Over.{clearedFrom};
-ghost use Rattle.shape.specs.Stored.{fieldsItem, itemOf, valuesOf};
-ghost use Rattle.shape.specs.Expand.{addOf, isPlain, plainOf, sumsOf, freshOf, traceOf};
-ghost use Rattle.shape.specs.Alone.{numberOf, usedOf, Expansion};
-ghost use Rattle.shape.specs.Inside.{NextIs, countOf, judged, told, Ran, Went, PairWent, LaidAll};
+ghost use Rattle.shape.specs.Stored.{fieldsItem, itemOf, countOf};
+ghost use Rattle.shape.specs.Samples.{addOf, isPlain};
+ghost use Rattle.shape.specs.Answers.{numberOf, usedOf};
 use numeral::Decimal;
-use numeral::Natural;
 use numeral::Number;
 use numeral::Signed;
 use signed::Sum;
@@ -63,33 +58,10 @@ pub enum Item {
     Bad,
 }
 
-// The next value from a place on, with the place behind its line.
-enum Next {
-    Value(Decimal, usize),
-    End,
-}
-
 // How many values some lines hold, or that a line is at fault.
-enum Count {
+pub enum Count {
     Values(usize),
     Faulty,
-}
-
-// Where expanding stands: the place in the text, how many samples there are, and their sum so far; behind a value, also that value.
-enum State {
-    Fresh {
-        from: usize,
-        at: usize,
-        sum: i64,
-    },
-    Repeat {
-        from: usize,
-        at: usize,
-        sum: i64,
-        last: Decimal,
-    },
-    Done(usize),
-    Bad,
 }
 
 // What the one field of a line holds; a line with none or with more is at fault.
@@ -120,32 +92,8 @@ pub fn line_item(line: &[u8]) -> Item
     }
 }
 
-// The next value from a place on. Lines that hold none are passed over.
-fn next_value(stored: &[u8], from: usize) -> Next
-    ensures { λ r. ⌜ NextIs (now (stored .entry)) from r ⌝ }
-{
-    let mut at = from;
-    while at < stored.len() {
-        let line = text::next_line(stored, at);
-        let stop = line.stop;
-        let behind = line.next;
-        match line_item(&stored[at..stop]) {
-            Item::Value(d) => {
-                return Next::Value(d, behind);
-            }
-            Item::Skipped => {
-                at = behind;
-            }
-            Item::Bad => {
-                at = behind;
-            }
-        }
-    }
-    Next::End
-}
-
 // How many values the lines hold, if none is at fault.
-fn count_values(stored: &[u8]) -> Count
+pub fn count_values(stored: &[u8]) -> Count
     ensures { λ r. ⌜ r ≡ countOf (now (stored .entry)) ⌝ }
 {
     let mut at = 0;
@@ -170,253 +118,8 @@ fn count_values(stored: &[u8]) -> Count
     Count::Values(n)
 }
 
-// The sample that a value makes of the sum so far, if both are within their limits.
-fn add_value(sum: i64, d: Decimal) -> Sum
-    ensures { λ r. ⌜ r ≡ addOf sum d ⌝ }
-{
-    match numeral::rounded(d) {
-        Signed::Value(v) => signed::plus(sum, v, 100000000000000000),
-        Signed::Bad => Sum::Beyond,
-    }
-}
-
-// Stores a sample at a place, if that place is there.
-fn store(samples: &mut [i64], at: usize, z: i64)
-    ensures { λ r. ⌜ now (samples .exit) ≡ set (now (samples .entry)) at z ⌝ }
-{
-    if at < samples.len() {
-        samples[at] = z;
-    }
-}
-
-// Lays the samples of a value that stands n times, if so many are still due.
-fn lay_run(samples: &mut [i64], num: usize, at: usize, sum: i64, d: Decimal, n: usize) -> Sum
-    requires { ⌜ at ≤ num ⌝ }
-    ensures { λ r. ⌜ Ran num (now (samples .entry)) (now (samples .exit)) at n sum d r ⌝ }
-{
-    if num - at < n {
-        return Sum::Beyond;
-    }
-    let mut s = sum;
-    let mut k = 0;
-    while k < n {
-        match add_value(s, d) {
-            Sum::Value(z) => {
-                store(samples, at + k, z);
-                s = z;
-                k += 1;
-            }
-            Sum::Beyond => {
-                return Sum::Beyond;
-            }
-        }
-    }
-    Sum::Value(s)
-}
-
-// Behind a pair of equal values, the second of which is d and not laid yet: its count, and the run that it makes.
-fn take_pair(
-    stored: &[u8],
-    samples: &mut [i64],
-    num: usize,
-    from: usize,
-    at: usize,
-    sum: i64,
-    d: Decimal,
-) -> State
-    requires { ⌜ at ≤ num ⌝ }
-    ensures { λ r. ⌜ PairWent (now (stored .entry)) num (now (samples .entry)) (now (samples .exit)) from at sum d r ⌝ }
-{
-    match next_value(stored, from) {
-        Next::Value(c, behind) => match numeral::whole_worth(c, 0, 0, 1000000) {
-            Natural::Value(n) => {
-                let more = n as usize + 1;
-                match lay_run(samples, num, at, sum, d, more) {
-                    Sum::Value(s) => State::Fresh {
-                        from: behind,
-                        at: at + more,
-                        sum: s,
-                    },
-                    Sum::Beyond => State::Bad,
-                }
-            }
-            Natural::Bad => State::Bad,
-        },
-        Next::End => State::Bad,
-    }
-}
-
-// Takes a fresh value.
-fn take_fresh(
-    stored: &[u8],
-    samples: &mut [i64],
-    num: usize,
-    from: usize,
-    at: usize,
-    sum: i64,
-) -> State
-    requires { ⌜ at ≤ num ⌝ }
-    ensures { λ r. ⌜ Went (now (stored .entry)) num (now (samples .entry)) (now (samples .exit)) (State.Fresh from at sum) r ⌝ }
-{
-    match next_value(stored, from) {
-        Next::Value(d, behind) => match lay_run(samples, num, at, sum, d, 1) {
-            Sum::Value(s) => State::Repeat {
-                from: behind,
-                at: at + 1,
-                sum: s,
-                last: d,
-            },
-            Sum::Beyond => State::Bad,
-        },
-        Next::End => State::Done(at),
-    }
-}
-
-// Behind the value `last`: takes a pair with its count, or hands back a value that is fresh.
-fn take_repeat(
-    stored: &[u8],
-    samples: &mut [i64],
-    num: usize,
-    from: usize,
-    at: usize,
-    sum: i64,
-    last: Decimal,
-) -> State
-    requires { ⌜ at ≤ num ⌝ }
-    ensures { λ r. ⌜ Went (now (stored .entry)) num (now (samples .entry)) (now (samples .exit)) (State.Repeat from at sum last) r ⌝ }
-{
-    match next_value(stored, from) {
-        Next::Value(d, behind) => {
-            if numeral::same_decimal(d, last) {
-                return take_pair(stored, samples, num, behind, at, sum, d);
-            }
-            State::Fresh {
-                from: from,
-                at: at,
-                sum: sum,
-            }
-        }
-        Next::End => State::Done(at),
-    }
-}
-
-// A fresh value hands on to a possible repeat. When no more calls may be open, the state goes back to whoever called first.
-fn fresh(
-    stored: &[u8],
-    samples: &mut [i64],
-    num: usize,
-    from: usize,
-    at: usize,
-    sum: i64,
-    open: usize,
-) -> State
-    requires { ⌜ at ≤ num ⌝ }
-    ensures { λ r. ⌜ Went (now (stored .entry)) num (now (samples .entry)) (now (samples .exit)) (State.Fresh from at sum) r ⌝ }
-{
-    let state = take_fresh(stored, samples, num, from, at, sum);
-    if open == 0 {
-        return state;
-    }
-    let State::Repeat {
-        from,
-        at,
-        sum,
-        last,
-    } = state
-    else {
-        return state;
-    };
-    repeat(stored, samples, num, from, at, sum, last, open - 1)
-}
-
-// A repeat hands back after its count.
-fn repeat(
-    stored: &[u8],
-    samples: &mut [i64],
-    num: usize,
-    from: usize,
-    at: usize,
-    sum: i64,
-    last: Decimal,
-    open: usize,
-) -> State
-    requires { ⌜ at ≤ num ⌝ }
-    ensures { λ r. ⌜ Went (now (stored .entry)) num (now (samples .entry)) (now (samples .exit)) (State.Repeat from at sum last) r ⌝ }
-{
-    let state = take_repeat(stored, samples, num, from, at, sum, last);
-    if open == 0 {
-        return state;
-    }
-    let State::Fresh { from, at, sum } = state else {
-        return state;
-    };
-    fresh(stored, samples, num, from, at, sum, open - 1)
-}
-
-// Lays run-length samples: at most 256 calls are open, and then this loop goes on.
-fn lay_runs(stored: &[u8], samples: &mut [i64], num: usize) -> bool
-    ensures { λ r. ⌜ told r (now (samples .exit)) ≡ judged num (now (samples .entry)) 0 (sumsOf (pos 0) (freshOf (valuesOf (now (stored .entry))))) ⌝ }
-{
-    let mut state = State::Fresh {
-        from: 0,
-        at: 0,
-        sum: 0,
-    };
-    loop {
-        match state {
-            State::Fresh { from, at, sum } => {
-                state = fresh(stored, samples, num, from, at, sum, 255);
-            }
-            State::Repeat {
-                from,
-                at,
-                sum,
-                last,
-            } => {
-                state = repeat(stored, samples, num, from, at, sum, last, 255);
-            }
-            State::Done(n) => {
-                return n == num;
-            }
-            State::Bad => {
-                return false;
-            }
-        }
-    }
-}
-
-// Lays plain samples: each value is one.
-fn lay_plain(stored: &[u8], samples: &mut [i64], num: usize) -> bool
-    ensures { λ r. ⌜ told r (now (samples .exit)) ≡ judged num (now (samples .entry)) 0 (plainOf (valuesOf (now (stored .entry)))) ⌝ }
-{
-    let mut from = 0;
-    let mut at = 0;
-    loop {
-        match next_value(stored, from) {
-            Next::Value(d, behind) => {
-                if num <= at {
-                    return false;
-                }
-                match add_value(0, d) {
-                    Sum::Value(z) => {
-                        store(samples, at, z);
-                        from = behind;
-                        at += 1;
-                    }
-                    Sum::Beyond => {
-                        return false;
-                    }
-                }
-            }
-            Next::End => {
-                return at == num;
-            }
-        }
-    }
-}
-
 // Are so many stored values the samples themselves?
-fn is_plain(edition: Edition, num: usize, count: usize) -> bool
+pub fn is_plain(edition: Edition, num: usize, count: usize) -> bool
     ensures { λ r. ⌜ r ≡ isPlain edition num count ⌝ }
 {
     match edition {
@@ -425,71 +128,12 @@ fn is_plain(edition: Edition, num: usize, count: usize) -> bool
     }
 }
 
-// Lays the samples in one form or the other, and tells whether they are as many as declared.
-fn lay(stored: &[u8], samples: &mut [i64], num: usize, plain: bool) -> bool
-    ensures { λ r. ⌜ told r (now (samples .exit)) ≡ judged num (now (samples .entry)) 0 (traceOf plain (valuesOf (now (stored .entry)))) ⌝ }
+// The sample that a value makes of the sum so far, if both are within their limits.
+pub fn add_value(sum: i64, d: Decimal) -> Sum
+    ensures { λ r. ⌜ r ≡ addOf sum d ⌝ }
 {
-    if plain {
-        return lay_plain(stored, samples, num);
-    }
-    lay_runs(stored, samples, num)
-}
-
-// Zeros from a place on.
-fn clear_from(samples: &mut [i64], from: usize)
-    ensures { λ r. ⌜ now (samples .exit) ≡ clearedFrom (pos 0) from (now (samples .entry)) ⌝ }
-{
-    let mut i = from;
-    while i < samples.len() {
-        samples[i] = 0;
-        i += 1;
-    }
-}
-
-// Lays the samples and answers, before what was lent is cleared.
-fn lay_all(stored: &[u8], num: usize, edition: Edition, samples: &mut [i64]) -> Expanded
-    ensures { λ r. ⌜ LaidAll edition num (now (stored .entry)) (now (samples .entry)) (now (samples .exit)) r ⌝ }
-{
-    if num == 0 {
-        return Expanded::Field;
-    }
-    if 1000000 < num {
-        return Expanded::Field;
-    }
-    match count_values(stored) {
-        Count::Values(n) => {
-            if !lay(stored, samples, num, is_plain(edition, num, n)) {
-                return Expanded::Shape;
-            }
-            if samples.len() < num {
-                return Expanded::Room;
-            }
-            Expanded::Samples(num)
-        }
-        Count::Faulty => Expanded::Field,
-    }
-}
-
-// Expands stored lines into num samples, in steps of 10^-12. What is lent holds the samples and then zeros; on a refusal, zeros.
-pub fn expand(stored: &[u8], num: usize, edition: Edition, samples: &mut [i64]) -> Expanded
-    ensures { λ r. ⌜ Expansion edition num (now (stored .entry)) (now (samples .entry)) r (now (samples .exit)) ⌝ }
-{
-    match lay_all(stored, num, edition, samples) {
-        Expanded::Samples(n) => {
-            clear_from(samples, n);
-            Expanded::Samples(n)
-        }
-        Expanded::Field => {
-            clear_from(samples, 0);
-            Expanded::Field
-        }
-        Expanded::Shape => {
-            clear_from(samples, 0);
-            Expanded::Shape
-        }
-        Expanded::Room => {
-            clear_from(samples, 0);
-            Expanded::Room
-        }
+    match numeral::rounded(d) {
+        Signed::Value(v) => signed::plus(sum, v, 100000000000000000),
+        Signed::Bad => Sum::Beyond,
     }
 }

@@ -13,8 +13,9 @@ use Rattle.text.proofs.Cases.{and-both}
 use Rattle.numeral.specs.declared.Decimal.{Decimal}
 use Rattle.print.proofs.Back.{sampleOf}
 use Rattle.shape.specs.Stored.{allSound, valuesOf}
-use Rattle.shape.specs.Expand.{Trace, sumsOf, isPlain, traceOf, samplesIn, expandsTo, expansionOf}
-use Rattle.shape.specs.Alone.{isCount, expandedOf, tableFrom, samplesAfter, tableOf}
+use Rattle.shape.specs.Samples.{isPlain}
+use Rattle.expanding.specs.Expand.{Trace, sumsOf, traceOf, samplesIn, expandsTo, expansionOf}
+use Rattle.expanding.specs.Alone.{isCount, expandedOf, tableFrom, samplesAfter, tableOf}
 use Rattle.shape.specs.declared.Edition.{Edition}
 use Rattle.shape.specs.declared.Edition.the-variants.{V13, V14}
 use Rattle.shape.specs.declared.Expanded.the-variants.{Samples}

@@ -8,7 +8,8 @@ use lib.IntN.{ℤ, pos, natAbs, _+ℤ_, _-ℤ_, +ℤ-comm, +ℤ-idl, -ℤ-+ℤ-c
 use Rattle.signed.specs.declared.Sum.the-variants.{Value as SumValue}
 use Rattle.signed.proofs.Sign.{within-value, abs-diff}
 use Rattle.print.proofs.Back.{sampleOf, steps-back}
-use Rattle.shape.specs.Expand.{Trace, done, next, sumTo, addOf, thenSum, sumsOf, plainOf, samplesIn, endsWell}
+use Rattle.shape.specs.Samples.{sumTo, addOf}
+use Rattle.expanding.specs.Expand.{Trace, done, next, thenSum, sumsOf, plainOf, samplesIn, endsWell}
 use Rattle.shape_text.specs.Written.{differencesFrom}
 use Rattle.shape_text.proofs.Longest.{AllIn, no-number, a-number}
 

@@ -16,7 +16,7 @@ use Rattle.numeral.specs.declared.Decimal.{Decimal}
 use Rattle.numeral.specs.declared.Signed.the-variants.{Value as SignedValue}
 use Rattle.numeral.proofs.Kept.{same-yes, same-true}
 use Rattle.print.proofs.Back.{sampleOf, steps-back}
-use Rattle.shape.specs.Expand.{next, repeated, counted, freshOf, repeatOf, pairOf}
+use Rattle.expanding.specs.Expand.{next, repeated, counted, freshOf, repeatOf, pairOf}
 use Rattle.shape_text.specs.Written.{Run, onRun, runsOf}
 use Rattle.shape_text.proofs.Counts.{count-worth}
 use Rattle.shape_text.proofs.Longest.{AllIn, no-number, a-number, Unlike, Longest, no-run, a-run, longest-more, runs-longest, runValues, runsValues}

@@ -78,7 +78,7 @@ fn put_samples(out: &mut [u8], at: usize, samples: &[i64]) -> usize {
 
 // Expands one case into what is lent, and writes its two lines.
 fn expand(head: &[u8], stored: &[u8], samples: &mut [i64]) {
-    let answer = shape::expand(stored, number_in(head, 1), edition_of(head), samples);
+    let answer = expanding::expand(stored, number_in(head, 1), edition_of(head), samples);
     let mut out = io::large_buffer();
     let a = put_answer(&mut out, 0, answer);
     let b = put_samples(&mut out, a, samples);

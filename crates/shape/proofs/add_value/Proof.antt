@@ -4,7 +4,7 @@ use mathlib.Core.Path.{_∙_, sym, ap₂}
 use lib.IntN.{_+ℤ_}
 use Rattle.signed.specs.Signed.{within}
 use Rattle.signed.proofs.Machine.{rd-is, rd-at}
-use Rattle.shape.proofs.Judging.{add-is, add-none}
+use Rattle.shape.proofs.Adding.{add-is, add-none}
 use borrow.Author.Needs.{needs}
 use Rattle.shape.proofs.add_value.Statement.{statement}
 use Rattle.shape.proofs.add_value.Tie as tie

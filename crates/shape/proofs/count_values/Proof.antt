@@ -5,7 +5,7 @@ use native.Mathlib.Omega.{arith}
 use mathlib.Core.Path.{sym, _∙_}
 use denote.Ref.{now}
 use Rattle.text.proofs.Cut.{LineAt, line-at}
-use Rattle.shape.proofs.Passing.{Counting, counting-start, counting-end, counting-value, counting-skipped, counting-faulty}
+use Rattle.shape.proofs.Counting.{Counting, counting-start, counting-end, counting-value, counting-skipped, counting-faulty}
 use borrow.Author.Needs.{needs}
 use Rattle.shape.proofs.count_values.Statement.{statement}
 use Rattle.shape.proofs.count_values.Tie as tie

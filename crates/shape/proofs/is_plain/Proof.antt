@@ -1,5 +1,5 @@
 -- `shape::is_plain` meets its contract. By cases on the edition. Assumes nothing.
-use Rattle.shape.specs.Expand.{isPlain}
+use Rattle.shape.specs.Samples.{isPlain}
 use borrow.Author.Needs.{needs}
 use Rattle.shape.proofs.is_plain.Statement.{statement}
 use Rattle.shape.proofs.is_plain.Tie as tie
