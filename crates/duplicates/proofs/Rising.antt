@@ -20,7 +20,7 @@ use Rattle.shape.specs.Stored.{itemOf}
 use Rattle.shape.specs.declared.Item.{Item}
 use Rattle.shape.specs.declared.Item.the-variants.{Value as ItemValue, Skipped, Bad as ItemBad}
 use Rattle.columns.specs.Columns.{columnsOf}
-use Rattle.columns.specs.Rows.{rowFrom, rowIs}
+use Rattle.rows.specs.Cells.{rowFrom, rowIs}
 use Rattle.columns.specs.declared.Form.{Form}
 use Rattle.columns.specs.declared.Form.the-variants.{Entry, Trigger}
 use Rattle.heads.specs.Heads.{labelOf, extensionOf, wordNumberOf}

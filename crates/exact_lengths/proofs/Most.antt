@@ -14,8 +14,7 @@ use Rattle.columns.specs.Ranges.{InRange, no-more, no-field, one-number, two-nu
 use Rattle.columns.specs.declared.Kind.{Kind}
 use Rattle.columns.specs.declared.Form.{Form}
 use Rattle.columns.specs.declared.Form.the-variants.{Block, Rf, Gradient, Trap, Adc, Delay, Entry, Trigger}
-use Rattle.columns.proofs.Back.{whole-width}
-use Rattle.columns.proofs.Zeros.{row-short}
+use Rattle.columns.proofs.Widths.{whole-width, row-fits}
 use Rattle.file_laws.specs.Ranges.{RowIn, by-columns, extension, label, shape}
 use Rattle.tables.specs.Tables.{numberAt}
 use Rattle.file_laws.proofs.Padded.{kind-first, own-number}
@@ -82,7 +81,7 @@ not-other f n o e = true≢false (sym o ∙ ap isOther e ∙ form-other f)
 module _ (e : Edition) (form : Form) (c : ℕ) where
   by-form : (cells : List ℤ) → RowIn e cells → getD cells 0 (pos 0) ≡ pos (formNumber form) → natAbs (getD cells (suc c) (pos 0)) ≤ mostAt (columnsOf e form) c
   by-form _ (by-columns own vs r) k =
-      let short = row-short e own r in
+      let short = row-fits e own r in
       let same : own ≡ form = sym (form-back own) ∙ ap formBy (same-kind (sym (kind-first (formNumber own) vs short) ∙ k)) ∙ form-back form in
       rw (own-number (formNumber own) vs short c, ← same) (in-most r c)
   by-form _ (extension type code a b d) k = absurd (not-other form 8 refl (same-kind (sym (kind-first 8 (pos type ∷ pos code ∷ []) (omega arith)) ∙ k)))
@@ -94,7 +93,7 @@ module _ (e : Edition) (form : Form) (c : ℕ) where
 
 -- "num_samples 1 to 10^6"
 shape-count : (e : Edition) (cells : List ℤ) → RowIn e cells → getD cells 0 (pos 0) ≡ pos 11 → natAbs (getD cells 2 (pos 0)) ≤ 10 ^ 6
-shape-count e _ (by-columns own vs r) k = absurd (not-other own 11 refl (sym (same-kind (sym (kind-first (formNumber own) vs (row-short e own r)) ∙ k))))
+shape-count e _ (by-columns own vs r) k = absurd (not-other own 11 refl (sym (same-kind (sym (kind-first (formNumber own) vs (row-fits e own r)) ∙ k))))
 shape-count e _ (extension type code a b d) k =
     absurd (let z : 8 ≡ 11 = same-kind (sym (kind-first 8 (pos type ∷ pos code ∷ []) (omega arith)) ∙ k) in omega arith)
 shape-count e _ (label id flag n v a b d f g i) k =

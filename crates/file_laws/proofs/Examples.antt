@@ -11,7 +11,8 @@ use Rattle.text.specs.Words.{sameBytes, placeFrom}
 use Rattle.numeral.specs.Digits.{isDigit, allDigits, valueFrom}
 use Rattle.numeral.specs.Integer.{inRange, isInteger, integerOf}
 use Rattle.columns.specs.Columns.{columnsOf}
-use Rattle.columns.specs.Rows.{naturalCell, integerCell, cellOf, with, rowFrom, padded, rowIs}
+use Rattle.columns.specs.Rows.{padded}
+use Rattle.rows.specs.Cells.{naturalCell, integerCell, cellOf, with, rowFrom, rowIs}
 use Rattle.heads.specs.Heads.{wordNumberOf}
 use Rattle.sections.specs.Sections.{sectionNames, sectionNo, hasSection, placeIn}
 use Rattle.places.specs.Places.{fresh}

@@ -7,7 +7,7 @@ use lib.IntN.{ℤ, pos}
 use lib.ListN.{length, getD, drop, replicate}
 use lib.Seq.{sets-eq}
 use Rattle.columns.specs.Rows.{blank, padded}
-use Rattle.columns.proofs.Zeros.{padded-own}
+use Rattle.columns.proofs.Widths.{padded-own}
 
 getD-zeros : (vs : List ℤ) (m c : ℕ) → getD (vs ++ replicate m (pos 0)) c (pos 0) ≡ getD vs c (pos 0)
 getD-zeros [] zero c = refl

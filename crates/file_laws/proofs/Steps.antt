@@ -20,11 +20,12 @@ use Rattle.shape.specs.Stored.{itemOf}
 use Rattle.shape.specs.declared.Item.{Item}
 use Rattle.shape.specs.declared.Item.the-variants.{Value as ItemValue, Skipped, Bad as ItemBad}
 use Rattle.columns.specs.Columns.{columnsOf, formNumber}
-use Rattle.columns.specs.Rows.{rowFrom, padded, rowIs}
+use Rattle.columns.specs.Rows.{padded}
+use Rattle.rows.specs.Cells.{rowFrom, rowIs}
 use Rattle.columns.specs.declared.Form.{Form}
 use Rattle.columns.specs.declared.Form.the-variants.{Block, Rf, Gradient, Trap, Adc, Delay, Entry, Trigger}
-use Rattle.columns.proofs.Ranges.{row-in-range}
-use Rattle.columns.proofs.Zeros.{row-short}
+use Rattle.rows.proofs.Ranges.{row-in-range}
+use Rattle.columns.proofs.Widths.{row-fits}
 use Rattle.heads.specs.Heads.{labelOf, extensionOf, wordNumberOf}
 use Rattle.heads.specs.declared.Head.{Head as HeadLine}
 use Rattle.heads.specs.declared.Head.the-variants.{Label, Extension, Bad as HeadBad}
@@ -302,7 +303,7 @@ module _ (st : State) where
           go : (o : Option (List ℤ)) → rowFrom (columnsOf (st .edition) form) fields ≡ o → Fine st (givenRow st n (rowIs form o))
           go none e = fine-refused FieldFault
           go (some vs) e = fine-gave p st h refl p (omega arith) n (padded (formNumber form) vs) (by-columns form vs (row-in-range (columnsOf (st .edition) form) fields vs e))
-              (stack-other st refl n (padded (formNumber form) vs) (form-no-shape form vs (row-short (st .edition) form (row-in-range (columnsOf (st .edition) form) fields vs e))))
+              (stack-other st refl n (padded (formNumber form) vs) (form-no-shape form vs (row-fits (st .edition) form (row-in-range (columnsOf (st .edition) form) fields vs e))))
 
       fine-label : (n : ℕ) (increment : Bool) (fields : List (List ℕ)) → Fine st (labelStep st n increment fields)
       unfolding labelStep labelRow

@@ -16,9 +16,10 @@ use Rattle.numeral.specs.declared.Natural.{Natural}
 use Rattle.numeral.specs.declared.Natural.the-variants.{Value as NaturalValue, Bad as NaturalBad}
 use Rattle.numeral.proofs.Outcomes.{held-size}
 use Rattle.columns.specs.Columns.{columnsOf}
-use Rattle.columns.specs.Rows.{rowFrom, padded, rowIs}
+use Rattle.columns.specs.Rows.{padded}
+use Rattle.rows.specs.Cells.{rowFrom, rowIs}
 use Rattle.columns.specs.declared.Form.{Form}
-use Rattle.columns.specs.declared.Row.{Row}
+use Rattle.rows.specs.declared.Row.{Row}
 use Rattle.heads.specs.Heads.{labelOf, extensionOf, extensionWord, wordNumberOf}
 use Rattle.heads.specs.declared.Head.{Head as HeadLine}
 use Rattle.heads.specs.declared.Head.the-variants.{Label, Extension, Bad as HeadBad}

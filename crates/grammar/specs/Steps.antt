@@ -18,11 +18,12 @@ use Rattle.shape.specs.Stored.{itemOf}
 use Rattle.shape.specs.declared.Item.{Item}
 use Rattle.shape.specs.declared.Item.the-variants.{Value as ItemValue, Skipped, Bad as ItemBad}
 use Rattle.columns.specs.Columns.{columnsOf, extensionKind, labelKind, shapeKind, mostOf}
-use Rattle.columns.specs.Rows.{rowFrom, blank, padded, rowIs}
+use Rattle.columns.specs.Rows.{blank, padded}
+use Rattle.rows.specs.Cells.{rowFrom, rowIs}
 use Rattle.columns.specs.declared.Form.{Form}
 use Rattle.columns.specs.declared.Form.the-variants.{Entry, Trigger}
 use Rattle.columns.specs.declared.Kind.the-variants.{Count}
-use Rattle.columns.specs.declared.Row.{Row}
+use Rattle.rows.specs.declared.Row.{Row}
 use Rattle.heads.specs.Heads.{labelOf, extensionOf, extensionWord, wordNumberOf}
 use Rattle.heads.specs.declared.Head.{Head as HeadLine}
 use Rattle.heads.specs.declared.Head.the-variants.{Label, Extension, Bad as HeadBad}

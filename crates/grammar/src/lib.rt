@@ -96,7 +96,7 @@ fn row_step(st: State, n: usize, form: Form, line: &[u8]) -> Stepped
     ensures { λ r. ⌜ r ≡ rowStep st n form (fieldsOf (now (line .entry))) ⌝ }
 {
     let edition = st.edition;
-    let row = columns::read_row(edition, form, line);
+    let row = rows::read_row(edition, form, line);
     if row.good {
         let cells = row.cells;
         return gave(st, n, cells);

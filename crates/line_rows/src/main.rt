@@ -32,7 +32,7 @@ fn put_numbers(out: &mut [u8], at: usize, numbers: &[i64]) -> usize {
 
 // Writes a row's twelve numbers and the row as it is printed, if the line is one.
 fn show_row(edition: Edition, name: &[u8], form: Form, line: &[u8]) {
-    let row = columns::read_row(edition, form, line);
+    let row = rows::read_row(edition, form, line);
     if !row.good {
         return;
     }
@@ -41,7 +41,7 @@ fn show_row(edition: Edition, name: &[u8], form: Form, line: &[u8]) {
     let a = put_name(&mut out, name);
     let b = put_numbers(&mut out, a, &cells);
     let c = text::put_bytes(&mut out, b, b" | ");
-    let d = columns::put_row(&mut out, c, edition, form, &cells);
+    let d = row_text::put_row(&mut out, c, edition, form, &cells);
     finish(&mut out, d);
 }
 

@@ -1,0 +1,197 @@
+// Rows: a line read by the columns of its section into a row's twelve numbers.
+ghost use mathlib.Core.Path.{_≡_};
+ghost use mathlib.Core.Option.{none};
+ghost use Rattle.text.specs.Fields.{fieldsOf};
+ghost use Rattle.numeral.specs.Decimal.{decimalOf};
+ghost use Rattle.columns.specs.Columns.{columnsOf, leastOf, mostOf};
+ghost use Rattle.rows.specs.Cells.{integerCell, decimalCell, dwellCell, cellOf, rowFrom, rowIs};
+ghost use Rattle.rows.specs.Inside.{TakenIs};
+use columns::Form;
+use columns::Kind;
+use numeral::Natural;
+use numeral::Number;
+use shape::Edition;
+
+// What a field is worth in a column: one number of the row, or two.
+pub enum Cell {
+    One(i64),
+    Two(i64, i64),
+    Bad,
+}
+
+// What was taken from a line for a column, and the place behind it.
+enum Taken {
+    One(i64, usize),
+    Two(i64, i64, usize),
+    Bad,
+}
+
+// A line read as a row: whether it is one, and its numbers.
+pub struct Row {
+    pub good: bool,
+    pub cells: [i64; 12],
+}
+
+// The largest ID, type, channel and reference.
+const LARGEST_ID: u64 = 2147483647;
+
+// The least that an integer column may hold.
+fn least_of(kind: Kind) -> u64
+    ensures { λ r. ⌜ r ≡ leastOf kind ⌝ }
+{
+    match kind {
+        Kind::Id => 1,
+        Kind::Reference => 0,
+        Kind::Required => 1,
+        Kind::Micros => 0,
+        Kind::Duration => 0,
+        Kind::Count => 1,
+        Kind::Natural => 0,
+        Kind::Decimal => 0,
+        Kind::Dwell => 1,
+        Kind::Absent => 0,
+    }
+}
+
+// The most that an integer column may hold.
+fn most_of(kind: Kind) -> u64
+    ensures { λ r. ⌜ r ≡ mostOf kind ⌝ }
+{
+    match kind {
+        Kind::Id => LARGEST_ID,
+        Kind::Reference => LARGEST_ID,
+        Kind::Required => LARGEST_ID,
+        Kind::Micros => 1000000000,
+        Kind::Duration => 1000000000,
+        Kind::Count => 1000000,
+        Kind::Natural => LARGEST_ID,
+        Kind::Decimal => 0,
+        Kind::Dwell => 1000000000,
+        Kind::Absent => 0,
+    }
+}
+
+// What an integer field is worth in a column.
+fn integer_cell(kind: Kind, field: &[u8]) -> Cell
+    ensures { λ r. ⌜ r ≡ integerCell kind (now (field .entry)) ⌝ }
+{
+    match numeral::read_integer(field, least_of(kind), most_of(kind)) {
+        Natural::Value(n) => Cell::One(signed::with_sign(false, n)),
+        Natural::Bad => Cell::Bad,
+    }
+}
+
+// What a decimal field is worth.
+fn decimal_cell(field: &[u8]) -> Cell
+    ensures { λ r. ⌜ r ≡ decimalCell (decimalOf (now (field .entry))) ⌝ }
+{
+    match numeral::read_decimal(field) {
+        Number::Value(d) => {
+            let m = d.mantissa;
+            let e = d.exponent;
+            Cell::Two(m, e)
+        }
+        Number::Bad => Cell::Bad,
+    }
+}
+
+// What a dwell field is worth, in ns.
+fn dwell_cell(field: &[u8]) -> Cell
+    ensures { λ r. ⌜ r ≡ dwellCell (decimalOf (now (field .entry))) ⌝ }
+{
+    match numeral::read_decimal(field) {
+        Number::Value(d) => match numeral::whole_worth(d, 0, 1, 1000000000) {
+            Natural::Value(n) => Cell::One(signed::with_sign(false, n)),
+            Natural::Bad => Cell::Bad,
+        },
+        Number::Bad => Cell::Bad,
+    }
+}
+
+// What a field is worth in a column.
+pub fn cell_of(kind: Kind, field: &[u8]) -> Cell
+    ensures { λ r. ⌜ r ≡ cellOf kind (now (field .entry)) ⌝ }
+{
+    match kind {
+        Kind::Id => integer_cell(Kind::Id, field),
+        Kind::Reference => integer_cell(Kind::Reference, field),
+        Kind::Required => integer_cell(Kind::Required, field),
+        Kind::Micros => integer_cell(Kind::Micros, field),
+        Kind::Duration => integer_cell(Kind::Duration, field),
+        Kind::Count => integer_cell(Kind::Count, field),
+        Kind::Natural => integer_cell(Kind::Natural, field),
+        Kind::Decimal => decimal_cell(field),
+        Kind::Dwell => dwell_cell(field),
+        Kind::Absent => Cell::Bad,
+    }
+}
+
+// Takes what a line holds for a column from a place on.
+fn take_cell(line: &[u8], at: usize, kind: Kind) -> Taken
+    ensures { λ r. ⌜ TakenIs (now (line .entry)) at kind r ⌝ }
+{
+    if columns::is_absent(kind) {
+        return Taken::One(0, at);
+    }
+    let field = text::next_field(line, at);
+    let start = field.start;
+    let stop = field.stop;
+    if line.len() <= start {
+        return Taken::Bad;
+    }
+    match cell_of(kind, &line[start..stop]) {
+        Cell::One(v) => Taken::One(v, stop),
+        Cell::Two(a, b) => Taken::Two(a, b, stop),
+        Cell::Bad => Taken::Bad,
+    }
+}
+
+// No row.
+fn bad_row() -> Row
+    ensures { λ r. ⌜ r ≡ rowIs Form.Block none ⌝ }
+{
+    Row {
+        good: false,
+        cells: [0i64; 12],
+    }
+}
+
+// A line read as a row of a form: as many fields as its columns ask for, each of its form and range.
+pub fn read_row(edition: Edition, form: Form, line: &[u8]) -> Row
+    ensures { λ r. ⌜ r ≡ rowIs form (rowFrom (columnsOf edition form) (fieldsOf (now (line .entry)))) ⌝ }
+{
+    let mut cells = [0i64; 12];
+    let number = columns::form_number(form);
+    cells[0] = number;
+    let count = columns::column_count(form, edition);
+    let mut at: usize = 0;
+    let mut w: usize = 1;
+    let mut j: usize = 0;
+    while j < count {
+        let kind = columns::kind_at(edition, form, j);
+        match take_cell(line, at, kind) {
+            Taken::One(v, behind) => {
+                cells[w] = v;
+                w += 1;
+                at = behind;
+                j += 1;
+            }
+            Taken::Two(a, b, behind) => {
+                cells[w] = a;
+                let x = w + 1;
+                cells[x] = b;
+                w += 2;
+                at = behind;
+                j += 1;
+            }
+            Taken::Bad => {
+                return bad_row();
+            }
+        }
+    }
+    let rest = text::next_field(line, at);
+    if rest.start < line.len() {
+        return bad_row();
+    }
+    Row { good: true, cells }
+}
