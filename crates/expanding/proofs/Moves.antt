@@ -10,7 +10,7 @@ use lib.IntN.{ℤ}
 use lib.ListN.{length}
 use Rattle.signed.specs.declared.Sum.{Sum}
 use Rattle.signed.specs.declared.Sum.the-variants.{Value as SumValue, Beyond}
-use Rattle.numeral.specs.Decimal.{sameDecimal}
+use Rattle.decimals.specs.Decimal.{sameDecimal}
 use Rattle.numeral.specs.Worth.{wholeOf}
 use Rattle.numeral.specs.declared.Decimal.{Decimal}
 use Rattle.numeral.specs.declared.Natural.the-variants.{Value as NaturalValue, Bad as NaturalBad}

@@ -170,7 +170,7 @@ fn take_repeat(
 {
     match next_value(stored, from) {
         Next::Value(d, behind) => {
-            if numeral::same_decimal(d, last) {
+            if decimals::same_decimal(d, last) {
                 return take_pair(stored, samples, num, behind, at, sum, d);
             }
             State::Fresh {

@@ -11,7 +11,7 @@ use Rattle.text.specs.Fields.{endsField, fieldsOf}
 use Rattle.signed.specs.Signed.{sameZ, isNegative, signedOf, within}
 use Rattle.numeral.specs.Digits.{isDigit, allDigits, valueFrom, isMinus, signLen}
 use Rattle.numeral.specs.Integer.{inRange, signedAs}
-use Rattle.numeral.specs.Decimal.{upTo, whole, fraction, digits, isMantissa, mantissaPart, exponentPart, isExponent, exponentOf, stripIn, stripFrom, kept, inLimits, isUnsigned, keptOf, decimalOf, sameDecimal}
+use Rattle.decimals.specs.Decimal.{upTo, whole, fraction, digits, isMantissa, mantissaPart, exponentPart, isExponent, exponentOf, stripIn, stripFrom, kept, inLimits, isUnsigned, keptOf, decimalOf, sameDecimal}
 use Rattle.numeral.specs.Worth.{wholeAt, wholeOf, nearest, roundAt, roundedOf}
 use Rattle.shape.specs.Stored.{numberItem, fieldsItem, markItem, itemOf, isSound, allSound, withItem, valuesIn}
 use Rattle.shape.specs.Samples.{sumTo, addOf, isPlain}

@@ -1,9 +1,9 @@
 // Reads number fields from standard input, one to a line, and writes what each is worth in every way that the library reads and prints one.
+use decimals::Number;
 use libc::STDIN_FILENO;
 use libc::STDOUT_FILENO;
 use numeral::Decimal;
 use numeral::Natural;
-use numeral::Number;
 use numeral::Signed;
 
 // Writes what parts two worths, and the name of the next one.
@@ -98,7 +98,7 @@ fn put_no_decimal(out: &mut [u8], at: usize) -> usize {
 
 // Writes all that a field is worth as a decimal.
 fn put_decimal(out: &mut [u8], at: usize, field: &[u8]) -> usize {
-    match numeral::read_decimal(field) {
+    match decimals::read_decimal(field) {
         Number::Value(d) => {
             let a = put_pair(out, at, d);
             let b = put_wholes(out, a, d);

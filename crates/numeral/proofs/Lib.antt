@@ -1,14 +1,7 @@
--- The laws of the definitions, and what several proofs use.
+-- The laws of integer fields and of a decimal's worth, and what several proofs use.
 pub mod Digits
 pub mod Integer
 pub mod Reading
 pub mod Parts
-pub mod Zeros
-pub mod Gathering
-pub mod Mantissas
-pub mod Powers
-pub mod Bodies
-pub mod Kept
 pub mod Scaling
 pub mod Outcomes
-pub mod Examples

@@ -4,22 +4,18 @@ use mathlib.Core.List.{List, [], _∷_}
 use mathlib.Core.Bool.{Bool, true, false, not, cond}
 use mathlib.Core.Path.{_≡_, ap, _∙_, sym}
 use native.Mathlib.Omega.{arith}
-use borrow.Author.Tests.{le-leb, lt-leb, eq-eqb, ne-eqb}
 use lib.Dec.{eqb}
-use lib.IntN.{ℤ, pos, negsuc, natAbs, subℕ, _+ℤ_}
+use lib.IntN.{ℤ, pos, negsuc, natAbs, _+ℤ_}
 use lib.ListN.{length, drop}
-use Rattle.signed.specs.Signed.{isNegative, signedOf, sameZ, largest}
-use Rattle.signed.proofs.Difference.{sub-same, sub-above, sub-below}
-use Rattle.signed.proofs.Sign.{signed-sub}
+use Rattle.signed.specs.Signed.{isNegative, signedOf, largest}
+use Rattle.signed.proofs.Difference.{sub-above, sub-below}
 use Rattle.numeral.specs.Digits.{isMinus}
 use Rattle.numeral.specs.Integer.{inRange, integerOf, signedAs, counterOf}
-use Rattle.numeral.specs.Decimal.{sameDecimal}
 use Rattle.numeral.specs.Worth.{wholeAt, wholeOf, nearest, roundAt, roundedOf}
-use Rattle.numeral.specs.Inside.{pairOf, shiftOf, Held}
+use Rattle.numeral.specs.Inside.{shiftOf, Held}
 use Rattle.numeral.specs.declared.Decimal.{Decimal}
 use Rattle.numeral.specs.declared.Natural.{Natural}
 use Rattle.numeral.specs.declared.Natural.the-variants.{Value as NaturalValue, Bad as NaturalBad}
-use Rattle.numeral.specs.declared.Number.the-variants.{Value, Bad}
 use Rattle.numeral.specs.declared.Shift.the-variants.{Up, Down}
 use Rattle.numeral.specs.declared.Signed.the-variants.{Value as SignedValue, Bad as SignedBad}
 use Rattle.text.proofs.Cases.{cond-yes}
@@ -29,33 +25,6 @@ use Rattle.numeral.proofs.Scaling.{downOf}
 -- a size that an i64 holds is not cut
 pub held-size : (s : Bool) (n : ℕ) → n ≤ largest → signedOf s (min n largest) ≡ signedOf s n
 held-size s n h = let e : min n largest ≡ n = omega arith in rw e
-
--- ---- Counted from 200 on
-pub from-below : (s : ℕ) → s < 200 → signedOf true (min (200 - s) largest) ≡ subℕ s 200
-from-below s h = held-size true (200 - s) (omega arith) ∙ signed-sub true (200 - s) ∙ sub-same 0 (200 - s) s 200 (omega arith)
-
-pub from-above : (s : ℕ) → 200 ≤ s → s ≤ 299 → signedOf false (min (s - 200) largest) ≡ subℕ s 200
-from-above s h k = held-size false (s - 200) (omega arith) ∙ signed-sub false (s - 200) ∙ sub-same (s - 200) 0 s 200 (omega arith)
-
--- ---- A pair
-module _ (negative : Bool) (v s : ℕ) where
-  pub pair-zero : v ≡ 0 → Value (record { mantissa = pos 0; exponent = pos 0 }) ≡ pairOf negative v s
-  unfolding pairOf
-  pair-zero e = rw (eq-eqb v 0 e)
-
-  module _ (n : v ≡ 0 → ⊥) where
-    pub pair-low : s < 101 → Bad ≡ pairOf negative v s
-    unfolding pairOf
-    pair-low h = rw (ne-eqb v 0 n, lt-leb 101 s h)
-
-    pub pair-high : 101 ≤ s → 299 < s → Bad ≡ pairOf negative v s
-    unfolding pairOf
-    pair-high h k = rw (ne-eqb v 0 n, le-leb 101 s h, lt-leb s 299 k)
-
-    pub pair-value : (m e : ℤ) → 101 ≤ s → s ≤ 299 → m ≡ signedOf negative v → e ≡ subℕ s 200
-        → Value (record { mantissa = m; exponent = e }) ≡ pairOf negative v s
-    unfolding pairOf
-    pair-value m e h k p q = rw (ne-eqb v 0 n, le-leb 101 s h, le-leb s 299 k, p, q)
 
 -- ---- A size with its sign
 pub as-value : (negative : Bool) (n : Natural) (size : ℕ) (z : ℤ) → n ≡ NaturalValue size → Held n → z ≡ signedOf negative (min size largest)
@@ -97,15 +66,6 @@ counter-minus most s e = rw e
 pub counter-plain : (most : ℕ) (s : List ℕ) → isMinus s ≡ false → signedAs false (integerOf 0 most s) ≡ counterOf most s
 unfolding counterOf
 counter-plain most s e = rw e
-
--- ---- Two decimals
-pub same-other : (a b : Decimal) → sameZ (a .mantissa) (b .mantissa) ≡ false → false ≡ sameDecimal a b
-unfolding sameDecimal
-same-other a b e = rw e
-
-pub same-both : (a b : Decimal) → sameZ (a .mantissa) (b .mantissa) ≡ true → sameZ (a .exponent) (b .exponent) ≡ sameDecimal a b
-unfolding sameDecimal
-same-both a b e = rw e
 
 -- ---- A shift, by the sign of the exponent and its size
 pub shift-far : (e : ℤ) (by n : ℕ) → n ≡ natAbs e → isNegative e ≡ false → Up (n + by) ≡ shiftOf (e +ℤ pos by)

@@ -14,17 +14,17 @@ use Rattle.signed.proofs.Difference.{sub-same, sub-pos, sub-add, sub-abs}
 use Rattle.signed.proofs.Sign.{sign-size, size-signed, sign-zero}
 use Rattle.numeral.specs.Digits.{isMinus, unsigned}
 use Rattle.numeral.specs.Integer.{inRange, integerOf, signedAs, counterOf}
-use Rattle.numeral.specs.Decimal.{digits, stripFrom, kept, inLimits, isUnsigned, keptOf, decimalOf}
+use Rattle.decimals.specs.Decimal.{digits, stripFrom, kept, inLimits, isUnsigned, keptOf, decimalOf}
 use Rattle.numeral.specs.Worth.{roundAt, roundedOf}
 use Rattle.numeral.specs.declared.Decimal.{Decimal}
 use Rattle.numeral.specs.declared.Natural.the-variants.{Value as NaturalValue}
-use Rattle.numeral.specs.declared.Number.the-variants.{Value}
+use Rattle.decimals.specs.declared.Number.the-variants.{Value}
 use Rattle.numeral.specs.declared.Signed.the-variants.{Value as SignedValue}
 use Rattle.text.proofs.Cases.{eq-or-ne}
 use Rattle.numeral.proofs.Integer.{integer-yes, integer-value, range-value}
 use Rattle.numeral.specs.Kept.{Kept, Normal, nothing}
-use Rattle.numeral.proofs.Kept.{kept-normal}
-use Rattle.numeral.proofs.Zeros.{strip-done, strip-le, strip-some, strip-worth, strip-fewer}
+use Rattle.decimals.proofs.Kept.{kept-normal}
+use Rattle.decimals.proofs.Zeros.{strip-done, strip-le, strip-some, strip-worth, strip-fewer}
 use Rattle.print.specs.Printed.{digitsOf, signedText, powerText, decimalText, sampleText}
 use Rattle.print.proofs.Digits.{digits-all, digits-some, digits-value, digits-within}
 use Rattle.print.proofs.Parts.{number-minus, number-unsigned, number-plain, signed-minus, fraction-none, digits-are, mantissa-yes, mantissa-cut, exponent-cut, power-form, power-worth, number-length, power-length}

@@ -14,12 +14,12 @@ use Rattle.signed.specs.Signed.{isNegative, sameZ}
 use Rattle.signed.proofs.Sign.{size-signed, positive-signed}
 use Rattle.numeral.specs.Digits.{isMinus, unsigned}
 use Rattle.numeral.specs.Integer.{inRange}
-use Rattle.numeral.specs.Decimal.{kept, stripFrom, inLimits, decimalOf}
+use Rattle.decimals.specs.Decimal.{kept, stripFrom, inLimits, decimalOf}
 use Rattle.numeral.specs.Worth.{wholeAt, wholeOf}
 use Rattle.numeral.specs.declared.Natural.the-variants.{Value as NaturalValue}
-use Rattle.numeral.specs.declared.Number.the-variants.{Value as NumberValue}
+use Rattle.decimals.specs.declared.Number.the-variants.{Value as NumberValue}
 use Rattle.numeral.proofs.Integer.{range-value}
-use Rattle.numeral.proofs.Zeros.{strip-le, strip-worth, strip-fewer}
+use Rattle.decimals.proofs.Zeros.{strip-le, strip-worth, strip-fewer}
 use Rattle.print.specs.Printed.{digitsOf, numberText, signedText, powerText}
 use Rattle.print.proofs.Digits.{digits-within}
 use Rattle.print.proofs.Parts.{number-minus, number-unsigned}

@@ -11,7 +11,7 @@ use lib.Seq.{drop-append-seam}
 use Rattle.signed.specs.Signed.{isNegative, sameZ}
 use Rattle.signed.proofs.Sign.{sign-size, sameZ-true}
 use Rattle.numeral.specs.Digits.{isDigit, allDigits, isMinus, signLen, unsigned}
-use Rattle.numeral.specs.Decimal.{upTo, whole, fraction, digits, isMantissa, mantissaPart, exponentPart, isExponent, exponentOf}
+use Rattle.decimals.specs.Decimal.{upTo, whole, fraction, digits, isMantissa, mantissaPart, exponentPart, isExponent, exponentOf}
 use Rattle.text.proofs.Cases.{and-both}
 use Rattle.numeral.proofs.Digits.{digit-least}
 use Rattle.print.specs.Printed.{digitsOf, numberText, signedText, powerText}

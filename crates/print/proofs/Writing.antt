@@ -11,10 +11,10 @@ use Rattle.text.proofs.Over.{put-then}
 use Rattle.signed.specs.Signed.{isNegative, sameZ, signedOf, largest}
 use Rattle.signed.proofs.Difference.{sub-same}
 use Rattle.signed.proofs.Sign.{signed-sub, size-signed, negative-signed, positive-signed}
-use Rattle.numeral.specs.Decimal.{kept, stripFrom}
+use Rattle.decimals.specs.Decimal.{kept, stripFrom}
 use Rattle.numeral.specs.declared.Decimal.{Decimal}
-use Rattle.numeral.specs.declared.Stripped.{Stripped}
-use Rattle.numeral.proofs.Zeros.{strip-some}
+use Rattle.decimals.specs.declared.Stripped.{Stripped}
+use Rattle.decimals.proofs.Zeros.{strip-some}
 use Rattle.print.specs.Printed.{digitsIn, digitsOf, numberText, signedText, powerText, decimalText, sampleText}
 use Rattle.print.proofs.Digits.{digits-one, digits-more}
 

@@ -5,7 +5,7 @@ use mathlib.Core.List.{List, [], _∷_, _++_}
 use lib.Dec.{ltb}
 use lib.IntN.{ℤ, pos, negsuc, natAbs}
 use Rattle.signed.specs.Signed.{isNegative, sameZ}
-use Rattle.numeral.specs.Decimal.{kept}
+use Rattle.decimals.specs.Decimal.{kept}
 use Rattle.numeral.specs.declared.Decimal.{Decimal}
 
 -- ---- Digits, with no leading zeros; k bounds how deep the recursion goes

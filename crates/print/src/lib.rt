@@ -76,7 +76,7 @@ pub fn put_sample(out: &mut [u8], at: usize, steps: i64) -> usize
     if size == 0 {
         return text::put_byte(out, at, 48);
     }
-    let t = numeral::strip(size);
+    let t = decimals::strip(size);
     let v = t.v;
     let zeros = t.zeros;
     put_scaled(out, at, signed::is_negative(steps), v, sample_power(zeros))

@@ -3,12 +3,12 @@ use Prim.Native.Nat.{ℕ}
 use mathlib.Core.Bool.{Bool, _||_}
 use mathlib.Core.List.{List, [], _∷_}
 use lib.Dec.{eqb}
-use Rattle.numeral.specs.Decimal.{decimalOf}
+use Rattle.decimals.specs.Decimal.{decimalOf}
 use Rattle.numeral.specs.Worth.{wholeOf}
 use Rattle.numeral.specs.declared.Natural.{Natural}
 use Rattle.numeral.specs.declared.Natural.the-variants.{Value as NaturalValue, Bad as NaturalBad}
-use Rattle.numeral.specs.declared.Number.{Number}
-use Rattle.numeral.specs.declared.Number.the-variants.{Value as NumberValue, Bad as NumberBad}
+use Rattle.decimals.specs.declared.Number.{Number}
+use Rattle.decimals.specs.declared.Number.the-variants.{Value as NumberValue, Bad as NumberBad}
 use Rattle.unit.specs.declared.Rasters.{Rasters}
 use Rattle.shape.specs.declared.Edition.{Edition}
 use Rattle.shape.specs.declared.Edition.the-variants.{V13, V14}

@@ -1,8 +1,8 @@
 // The rasters of a file and a site, in nanoseconds, and whether a needed one is missing.
 ghost use mathlib.Core.Path.{_≡_};
 ghost use Rattle.rasters.specs.Rasters.{rasterOf, textOf, rastersOf, lacks};
+use decimals::Number;
 use numeral::Natural;
-use numeral::Number;
 use shape::Edition;
 use unit::Nanos;
 use unit::Rasters;
@@ -11,7 +11,7 @@ use unit::Rasters;
 fn raster(text: &[u8]) -> Nanos
     ensures { λ r. ⌜ r .0 ≡ rasterOf (now (text .entry)) ⌝ }
 {
-    match numeral::read_decimal(text) {
+    match decimals::read_decimal(text) {
         Number::Value(d) => match numeral::whole_worth(d, 9, 1, 1000000) {
             Natural::Value(ns) => Nanos(ns),
             Natural::Bad => Nanos(0),

@@ -9,7 +9,7 @@ use lib.IntN.{ℤ, pos}
 use lib.ListN.{getD, drop}
 use Rattle.text.specs.Fields.{fieldsOf}
 use Rattle.text.proofs.Fields.{Word, AllWords, none-left, one-more, fields-joined}
-use Rattle.numeral.specs.Decimal.{decimalOf}
+use Rattle.decimals.specs.Decimal.{decimalOf}
 use Rattle.numeral.specs.Kept.{Kept}
 use Rattle.print.specs.Printed.{digitsOf}
 use Rattle.print.proofs.Back.{integer-back, decimal-back}

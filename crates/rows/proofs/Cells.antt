@@ -8,14 +8,14 @@ use native.Mathlib.Omega.{arith}
 use lib.IntN.{ℤ}
 use Rattle.signed.specs.Signed.{signedOf, largest}
 use Rattle.numeral.specs.Integer.{integerOf}
-use Rattle.numeral.specs.Decimal.{decimalOf}
+use Rattle.decimals.specs.Decimal.{decimalOf}
 use Rattle.numeral.specs.Worth.{wholeOf}
 use Rattle.numeral.specs.Inside.{Held}
 use Rattle.numeral.specs.declared.Decimal.{Decimal}
 use Rattle.numeral.specs.declared.Natural.{Natural}
 use Rattle.numeral.specs.declared.Natural.the-variants.{Value as NaturalValue, Bad as NaturalBad}
-use Rattle.numeral.specs.declared.Number.{Number}
-use Rattle.numeral.specs.declared.Number.the-variants.{Value as NumberValue, Bad as NumberBad}
+use Rattle.decimals.specs.declared.Number.{Number}
+use Rattle.decimals.specs.declared.Number.the-variants.{Value as NumberValue, Bad as NumberBad}
 use Rattle.numeral.proofs.Outcomes.{held-size, held-integer, whole-range}
 use Rattle.columns.specs.Columns.{isAbsent, leastOf, mostOf, widthOf}
 use Rattle.rows.specs.Cells.{naturalCell, decimalCell, dwellCell, integerCell, cellOf}

@@ -10,7 +10,7 @@ use Rattle.text.specs.Fields.{endsField, fieldsOf}
 use Rattle.signed.specs.Signed.{isNegative, signedOf}
 use Rattle.numeral.specs.Digits.{isDigit, allDigits, valueFrom, isMinus, signLen}
 use Rattle.numeral.specs.Integer.{inRange, isInteger, integerOf}
-use Rattle.numeral.specs.Decimal.{upTo, whole, fraction, digits, isMantissa, mantissaPart, exponentPart, isExponent, exponentOf, stripIn, stripFrom, kept, inLimits, isUnsigned, keptOf, decimalOf}
+use Rattle.decimals.specs.Decimal.{upTo, whole, fraction, digits, isMantissa, mantissaPart, exponentPart, isExponent, exponentOf, stripIn, stripFrom, kept, inLimits, isUnsigned, keptOf, decimalOf}
 use Rattle.numeral.specs.Worth.{wholeAt, wholeOf}
 use Rattle.shape.specs.declared.Edition.{Edition}
 use Rattle.shape.specs.declared.Edition.the-variants.{V13, V14}

@@ -6,16 +6,16 @@ use mathlib.Core.Option.{Option, none, some}
 use mathlib.Core.Path.{_≡_, refl, sym, _∙_}
 use native.Mathlib.Omega.{arith}
 use lib.IntN.{ℤ, pos}
-use Rattle.numeral.specs.Decimal.{decimalOf}
+use Rattle.decimals.specs.Decimal.{decimalOf}
 use Rattle.numeral.specs.Integer.{integerOf}
 use Rattle.numeral.specs.Worth.{wholeOf}
 use Rattle.numeral.specs.declared.Natural.{Natural as Whole}
 use Rattle.numeral.specs.declared.Natural.the-variants.{Value as NaturalValue, Bad as NaturalBad}
-use Rattle.numeral.specs.declared.Number.{Number}
-use Rattle.numeral.specs.declared.Number.the-variants.{Value as NumberValue, Bad as NumberBad}
+use Rattle.decimals.specs.declared.Number.{Number}
+use Rattle.decimals.specs.declared.Number.the-variants.{Value as NumberValue, Bad as NumberBad}
 use Rattle.numeral.proofs.Integer.{integer-inv}
 use Rattle.numeral.specs.Kept.{Kept}
-use Rattle.numeral.proofs.Kept.{decimal-kept}
+use Rattle.decimals.proofs.Kept.{decimal-kept}
 use Rattle.numeral.proofs.Outcomes.{whole-range}
 use Rattle.columns.specs.Columns.{leastOf, mostOf, isAbsent}
 use Rattle.rows.specs.Cells.{naturalCell, decimalCell, dwellCell, integerCell, cellOf, with, rowFrom}

@@ -2,14 +2,14 @@
 ghost use mathlib.Core.Path.{_≡_};
 ghost use mathlib.Core.Option.{none};
 ghost use Rattle.text.specs.Fields.{fieldsOf};
-ghost use Rattle.numeral.specs.Decimal.{decimalOf};
+ghost use Rattle.decimals.specs.Decimal.{decimalOf};
 ghost use Rattle.columns.specs.Columns.{columnsOf, leastOf, mostOf};
 ghost use Rattle.rows.specs.Cells.{integerCell, decimalCell, dwellCell, cellOf, rowFrom, rowIs};
 ghost use Rattle.rows.specs.Inside.{TakenIs};
 use columns::Form;
 use columns::Kind;
+use decimals::Number;
 use numeral::Natural;
-use numeral::Number;
 use shape::Edition;
 
 // What a field is worth in a column: one number of the row, or two.
@@ -85,7 +85,7 @@ fn integer_cell(kind: Kind, field: &[u8]) -> Cell
 fn decimal_cell(field: &[u8]) -> Cell
     ensures { λ r. ⌜ r ≡ decimalCell (decimalOf (now (field .entry))) ⌝ }
 {
-    match numeral::read_decimal(field) {
+    match decimals::read_decimal(field) {
         Number::Value(d) => {
             let m = d.mantissa;
             let e = d.exponent;
@@ -99,7 +99,7 @@ fn decimal_cell(field: &[u8]) -> Cell
 fn dwell_cell(field: &[u8]) -> Cell
     ensures { λ r. ⌜ r ≡ dwellCell (decimalOf (now (field .entry))) ⌝ }
 {
-    match numeral::read_decimal(field) {
+    match decimals::read_decimal(field) {
         Number::Value(d) => match numeral::whole_worth(d, 0, 1, 1000000000) {
             Natural::Value(n) => Cell::One(signed::with_sign(false, n)),
             Natural::Bad => Cell::Bad,

@@ -7,8 +7,8 @@ use lib.ListN.{length, getD}
 use Rattle.text.specs.Marks.{markOf, breaksLine}
 use Rattle.text.specs.declared.Mark.{Mark}
 use Rattle.text.proofs.Counted.{one-of}
-use Rattle.numeral.specs.Decimal.{decimalOf}
-use Rattle.numeral.specs.declared.Number.{Number}
+use Rattle.decimals.specs.Decimal.{decimalOf}
+use Rattle.decimals.specs.declared.Number.{Number}
 use Rattle.shape.specs.Stored.{numberItem, fieldsItem, markItem, itemOf}
 use Rattle.shape.specs.declared.Item.the-variants.{Bad}
 

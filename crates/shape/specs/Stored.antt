@@ -8,10 +8,10 @@ use Rattle.text.specs.Marks.{markOf, breaksLine}
 use Rattle.text.specs.Fields.{fieldsOf}
 use Rattle.text.specs.declared.Mark.{Mark}
 use Rattle.text.specs.declared.Mark.the-variants.{Blank, Comment, Section, Plain}
-use Rattle.numeral.specs.Decimal.{decimalOf}
+use Rattle.decimals.specs.Decimal.{decimalOf}
 use Rattle.numeral.specs.declared.Decimal.{Decimal}
-use Rattle.numeral.specs.declared.Number.{Number}
-use Rattle.numeral.specs.declared.Number.the-variants.{Value as NumberValue, Bad as NumberBad}
+use Rattle.decimals.specs.declared.Number.{Number}
+use Rattle.decimals.specs.declared.Number.the-variants.{Value as NumberValue, Bad as NumberBad}
 use Rattle.shape.specs.declared.Count.{Count}
 use Rattle.shape.specs.declared.Count.the-variants.{Values, Faulty}
 use Rattle.shape.specs.declared.Item.{Item}

@@ -5,8 +5,8 @@ ghost use Rattle.text.specs.Fields.{fieldsOf};
 ghost use Rattle.shape.specs.Stored.{fieldsItem, itemOf, countOf};
 ghost use Rattle.shape.specs.Samples.{addOf, isPlain};
 ghost use Rattle.shape.specs.Answers.{numberOf, usedOf};
+use decimals::Number;
 use numeral::Decimal;
-use numeral::Number;
 use numeral::Signed;
 use signed::Sum;
 use text::Mark;
@@ -71,7 +71,7 @@ fn field_item(line: &[u8]) -> Item
     if text::field_count(line) != 1 {
         return Item::Bad;
     }
-    match numeral::read_decimal(text::field(line, 0)) {
+    match decimals::read_decimal(text::field(line, 0)) {
         Number::Value(d) => Item::Value(d),
         Number::Bad => Item::Bad,
     }

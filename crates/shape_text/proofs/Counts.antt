@@ -8,7 +8,7 @@ use lib.IntN.{pos}
 use Rattle.text.specs.Marks.{markOf}
 use Rattle.text.specs.declared.Mark.the-variants.{Plain}
 use Rattle.signed.specs.Signed.{sameZ}
-use Rattle.numeral.specs.Decimal.{kept}
+use Rattle.decimals.specs.Decimal.{kept}
 use Rattle.numeral.specs.Worth.{wholeOf}
 use Rattle.numeral.specs.declared.Decimal.{Decimal}
 use Rattle.numeral.specs.declared.Natural.the-variants.{Value as NaturalValue}

@@ -3,7 +3,7 @@ use mathlib.Core.List.{[], _∷_}
 use mathlib.Core.Path.{_≡_, refl}
 use lib.IntN.{pos, negsuc}
 use Rattle.signed.specs.Signed.{isNegative, signedOf, sameZ}
-use Rattle.numeral.specs.Decimal.{stripIn, stripFrom, kept}
+use Rattle.decimals.specs.Decimal.{stripIn, stripFrom, kept}
 use Rattle.print.specs.Printed.{digitsIn, digitsOf, numberText, signedText, powerText, decimalText, sampleText}
 use Rattle.shape.specs.declared.Edition.the-variants.{V13, V14}
 use Rattle.shape_text.specs.declared.Written.the-variants.{Shape}

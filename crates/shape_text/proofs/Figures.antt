@@ -15,11 +15,11 @@ use Rattle.text.proofs.Fields.{Word, fields-last}
 use Rattle.text.proofs.Visible.{allVisible, visible-plain}
 use Rattle.signed.specs.Signed.{isNegative}
 use Rattle.numeral.specs.Digits.{isDigit, allDigits}
-use Rattle.numeral.specs.Decimal.{decimalOf}
+use Rattle.decimals.specs.Decimal.{decimalOf}
 use Rattle.numeral.specs.declared.Decimal.{Decimal}
-use Rattle.numeral.specs.declared.Number.the-variants.{Value as NumberValue, Bad as NumberBad}
+use Rattle.decimals.specs.declared.Number.the-variants.{Value as NumberValue, Bad as NumberBad}
 use Rattle.numeral.proofs.Digits.{digit-least, digit-most}
-use Rattle.numeral.proofs.Bodies.{decimal-long}
+use Rattle.decimals.proofs.Bodies.{decimal-long}
 use Rattle.print.specs.Printed.{digitsOf, numberText, signedText, powerText, decimalText, sampleText}
 use Rattle.print.proofs.Digits.{digits-all, digits-some}
 use Rattle.print.proofs.Figures.{decimal-visible, sample-word}

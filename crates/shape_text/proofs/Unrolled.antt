@@ -10,11 +10,11 @@ use lib.ListN.{length}
 use Rattle.text.proofs.Cases.{true-or-false}
 use Rattle.signed.specs.Signed.{sameZ}
 use Rattle.signed.proofs.Sign.{sameZ-true, sameZ-false}
-use Rattle.numeral.specs.Decimal.{sameDecimal}
+use Rattle.decimals.specs.Decimal.{sameDecimal}
 use Rattle.numeral.specs.Worth.{roundedOf}
 use Rattle.numeral.specs.declared.Decimal.{Decimal}
 use Rattle.numeral.specs.declared.Signed.the-variants.{Value as SignedValue}
-use Rattle.numeral.proofs.Kept.{same-yes, same-true}
+use Rattle.decimals.proofs.Kept.{same-yes, same-true}
 use Rattle.print.proofs.Back.{sampleOf, steps-back}
 use Rattle.expanding.specs.Expand.{next, repeated, counted, freshOf, repeatOf, pairOf}
 use Rattle.shape_text.specs.Written.{Run, onRun, runsOf}

@@ -4,8 +4,8 @@ use native.Mathlib.Omega.{arith}
 use lib.IntN.{natAbs}
 use Rattle.signed.specs.Signed.{isNegative}
 use Rattle.signed.proofs.Machine.{rd-is, rd-at, size-most}
-use Rattle.numeral.proofs.Zeros.{strip-zeros}
-use Rattle.numeral.specs.declared.Stripped.{Stripped}
+use Rattle.decimals.proofs.Zeros.{strip-zeros}
+use Rattle.decimals.specs.declared.Stripped.{Stripped}
 use Rattle.print.proofs.Writing.{wrote-nothing, wrote-sample}
 use borrow.Author.Needs.{needs}
 use Rattle.print.proofs.put_sample.Statement.{statement}

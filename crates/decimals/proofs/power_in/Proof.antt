@@ -1,0 +1,148 @@
+-- `decimals::power_in` meets its contract: what stands behind the e and the sign is cut off, and read. Assumes nothing.
+use Prim.Native.Nat.{ℕ, _+_, _-_, _≤_, _<_}
+use mathlib.Core.List.{List}
+use mathlib.Core.Bool.{Bool, true, false}
+use mathlib.Core.Path.{_≡_, sym, _∙_, ap}
+use native.Mathlib.Omega.{arith}
+use denote.Ref.{now}
+use lib.ListN.{length, take, drop}
+use Rattle.numeral.specs.Digits.{isMinus, signLen}
+use Rattle.numeral.specs.Integer.{integerOf}
+use Rattle.decimals.specs.Inside.{biased, powerOf}
+use Rattle.numeral.specs.declared.Natural.{Natural}
+use Rattle.numeral.specs.declared.Natural.the-variants.{Value, Bad}
+use Rattle.numeral.proofs.Digits.{sign-le}
+use Rattle.numeral.proofs.Integer.{integer-inv}
+use Rattle.numeral.proofs.Parts.{tail-part}
+use Rattle.decimals.proofs.Powers.{powerAt, power-none, power-some, short-long, short-value, short-bad}
+use borrow.Author.Needs.{needs}
+use Rattle.decimals.proofs.power_in.Statement.{statement}
+use Rattle.decimals.proofs.power_in.Tie as tie
+
+-- the part behind a place
+abbrev from : List ℕ → ℕ → List ℕ
+from s a = take (length s - a) (drop a s)
+
+-- what is known once the parts are cut: t stands behind the e, d behind the sign
+parts : (s : List ℕ) (negative : Bool) (a : ℕ) → 0 < length s → negative ≡ isMinus (from s 1) → a ≡ signLen (from s 1)
+    → powerAt negative (from (from s 1) a) ≡ powerOf s
+parts s negative a h n e =
+    rw n
+    (power-some s (from s 1) (from (from s 1) a) h (tail-part s 1)
+    (tail-part (from s 1) a ∙ ap (λ (k : ℕ). drop k (from s 1)) e))
+
+-- the returns, by d
+long : (s d : List ℕ) (negative : Bool) → powerAt negative d ≡ powerOf s → 2 < length d → Bad ≡ powerOf s
+long s d negative e h = rw (short-long d h) at e
+
+bad : (s d : List ℕ) (negative : Bool) (r : Natural) → powerAt negative d ≡ powerOf s → r ≡ integerOf 0 99 d → r ≡ Bad → Bad ≡ powerOf s
+bad s d negative r e p q = rw (short-bad d (sym p ∙ q)) at e
+
+good : (s d : List ℕ) (negative : Bool) (r : Natural) (n : ℕ) → powerAt negative d ≡ powerOf s → length d ≤ 2 → r ≡ integerOf 0 99 d → r ≡ Value n
+    → Value (biased negative n) ≡ powerOf s
+good s d negative r n e h p q =
+    let w = short-value d n h (sym p ∙ q) in
+    ap (λ (k : ℕ). Value (biased negative k)) (sym (w .1)) ∙ (rw (w .0) at e)
+
+minus : (s : List ℕ) (negative : Bool) (n : ℕ) → negative ≡ true → Value (biased negative n) ≡ powerOf s → Value (200 - n) ≡ powerOf s
+unfolding biased
+minus s negative n t e = rw t at e
+
+plus : (s : List ℕ) (negative : Bool) (n : ℕ) → negative ≡ false → Value (biased negative n) ≡ powerOf s → Value (200 + n) ≡ powerOf s
+unfolding biased
+plus s negative n t e = rw t at e
+
+-- ---- what is known at places of the code
+-- the digits behind the sign
+abbrev cut : tie.After-d → List ℕ
+cut c = from (from (now (c .before .before .before .before .before .before .args .s)) 1) (c .before .sign-len .result)
+
+the-parts : (c : tie.After-d)
+    → powerAt (c .before .before .is-minus .result) (cut c) ≡ powerOf (now (c .before .before .before .before .before .before .args .s))
+the-parts c = parts _ _ _ (omega arith) (c .before .before .is-minus .ensures) (c .before .sign-len .ensures)
+
+the-sign : (c : tie.After-sign-len) → c .sign-len .result ≤ length (from (now (c .before .before .before .before .before .args .s)) 1)
+the-sign c = omega (arith, sign-le (from (now (c .before .before .before .before .before .args .s)) 1))
+
+small : (c : tie.After-n) → c .n .given .0 .0 ≤ 99
+small c = integer-inv 0 99 _ _ (sym (c .before .before .read-integer .ensures) ∙ c .n .given .1) .most
+
+the-value : (c : tie.After-known-told) → Value (biased (c .before .before .before .before .before .before .before .is-minus .result) (c .before .n .given .0 .0)) ≡ powerOf (now (c .before .before .before .before .before .before .before .before .before .before .before .args .s))
+the-value c = good _ _ _ _ _ (the-parts (c .before .before .before .before .before)) (c .before .before .before .before .if2 .left) (c .before .before .before .read-integer .ensures) (c .before .n .given .1)
+
+returns : tie.Need-returns
+returns c = power-none _ (c .if1 .taken)
+
+sub-t : tie.Need-sub-t
+sub-t c = search needs
+
+part-t-start : tie.Need-part-t-start
+part-t-start c = search needs
+
+part-t-end : tie.Need-part-t-end
+part-t-end c = search needs
+
+is-minus-requires : tie.Need-is-minus-requires
+is-minus-requires c κs = search needs
+
+sign-len-requires : tie.Need-sign-len-requires
+sign-len-requires c κs = search needs
+
+sub-d : tie.Need-sub-d
+sub-d c = the-sign c
+
+part-d-start : tie.Need-part-d-start
+part-d-start c = the-sign c
+
+part-d-end : tie.Need-part-d-end
+part-d-end c = search needs
+
+returns-2 : tie.Need-returns-2
+returns-2 c = long _ (cut (c .before)) (c .before .before .before .is-minus .result) (the-parts (c .before)) (c .if2 .taken)
+
+read-integer-requires : tie.Need-read-integer-requires
+read-integer-requires c κs = search needs
+
+enum-known-n : tie.Need-enum-known-n
+enum-known-n c = search needs
+
+sub-t16 : tie.Need-sub-t16
+sub-t16 c = let h = small (c .before .before) in omega arith
+
+returns-3 : tie.Need-returns-3
+returns-3 c = minus _ _ _ (c .if3 .taken) (the-value (c .before))
+
+add-t17 : tie.Need-add-t17
+add-t17 c = let h = small (c .before .before) in omega arith
+
+enum-told : tie.Need-enum-told
+enum-told c = search needs
+
+returns-4 : tie.Need-returns-4
+returns-4 c = plus _ _ _ (c .if3 .left) (the-value (c .before))
+
+returns-5 : tie.Need-returns-5
+returns-5 c = bad _ _ _ _ (the-parts (c .before .before .before .before)) (c .before .before .read-integer .ensures) (c .enum-told .given .1)
+
+pub power-in-spec : {M : Type 1} → statement M
+power-in-spec =
+    tie.close
+    (tie.spec
+    returns
+    sub-t
+    part-t-start
+    part-t-end
+    is-minus-requires
+    sign-len-requires
+    sub-d
+    part-d-start
+    part-d-end
+    returns-2
+    read-integer-requires
+    enum-known-n
+    sub-t16
+    returns-3
+    add-t17
+    enum-told
+    returns-4
+    returns-5)

@@ -1,0 +1,3 @@
+-- What must be believed of decimal fields; then what the inner functions answer.
+pub mod Decimal
+pub mod Inside
