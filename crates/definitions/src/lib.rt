@@ -26,7 +26,7 @@ fn defines(line: &[u8], found: Found, key: &[u8]) -> bool
     ensures { λ r. ⌜ r ≡ isDefined found && sameBytes (keyOf (now (line .entry))) (now (key .entry)) ⌝ }
 {
     if is_defined(found) {
-        return text::same(text::field(line, 0), key);
+        return text::same(fields::field(line, 0), key);
     }
     false
 }
@@ -102,7 +102,7 @@ fn repeats(line: &[u8], found: Found, rest: &[u8]) -> bool
     ensures { λ r. ⌜ r ≡ isDefined found && isNamed (keyOf (now (line .entry))) (siteDefinitions (now (rest .entry))) ⌝ }
 {
     if is_defined(found) {
-        return 0 < site_definition(rest, text::field(line, 0)).len();
+        return 0 < site_definition(rest, fields::field(line, 0)).len();
     }
     false
 }

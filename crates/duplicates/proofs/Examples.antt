@@ -4,7 +4,8 @@ use mathlib.Core.List.{List, [], _∷_}
 use mathlib.Core.Path.{_≡_, refl}
 use Rattle.text.specs.Lines.{onto}
 use Rattle.text.specs.Marks.{isBlank, markOf, isComment, isControl, anyControl, breaksLine}
-use Rattle.text.specs.Fields.{endsField, fieldsOf, fieldAt, skipped, wordLen, blankLen, bodyLen, trimmed}
+use Rattle.text.specs.Blanks.{skipped, blankLen}
+use Rattle.fields.specs.Fields.{endsField, fieldsOf, fieldAt, wordLen, bodyLen, trimmed}
 use Rattle.text.specs.Words.{sameBytes, placeFrom}
 use Rattle.signed.specs.Signed.{sameZ}
 use Rattle.numeral.specs.Digits.{isDigit, allDigits, valueFrom}

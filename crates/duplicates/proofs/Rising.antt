@@ -8,7 +8,7 @@ use native.Mathlib.Omega.{arith}
 use lib.Dec.{eqb}
 use lib.IntN.{ℤ}
 use lib.ListN.{length}
-use Rattle.text.specs.Fields.{fieldsOf}
+use Rattle.fields.specs.Fields.{fieldsOf}
 use Rattle.text.specs.Lines.{linesOf}
 use Rattle.text.specs.Marks.{markOf, breaksLine}
 use Rattle.text.specs.declared.Mark.{Mark}

@@ -7,7 +7,7 @@ use lib.Dec.{eqb, ltb}
 use lib.IntN.{ℤ, pos}
 use lib.ListN.{getD}
 use Rattle.text.specs.Lines.{linesOf}
-use Rattle.text.specs.Fields.{fieldsOf}
+use Rattle.fields.specs.Fields.{fieldsOf}
 use Rattle.text.specs.Words.{sameBytes}
 use Rattle.signed.specs.Signed.{sameZ}
 use Rattle.columns.specs.Columns.{extensionKind}

@@ -50,8 +50,8 @@ fn word_of(line: &[u8], sort: Sort) -> &[u8]
     ensures { λ r. ⌜ now r ≡ wordOf (now (line .entry)) sort ⌝ }
 {
     match sort {
-        Sort::Key => text::field(line, 0),
-        Sort::Name => text::field(line, 1),
+        Sort::Key => fields::field(line, 0),
+        Sort::Name => fields::field(line, 1),
     }
 }
 

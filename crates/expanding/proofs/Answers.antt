@@ -10,7 +10,7 @@ use lib.IntN.{ℤ, pos}
 use lib.ListN.{length, take, drop, replicate}
 use lib.Seq.{sets, sets-eq, take-append-seam}
 use Rattle.text.specs.Lines.{linesOf}
-use Rattle.text.specs.Over.{clearedFrom}
+use Rattle.output.specs.Over.{clearedFrom}
 use Rattle.text.proofs.Cases.{and-both, cond-yes, cond-no}
 use Rattle.shape.specs.Stored.{allSound, valuesOf, countOf}
 use Rattle.shape.specs.Samples.{isPlain}

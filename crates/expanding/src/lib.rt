@@ -3,7 +3,7 @@ ghost use mathlib.Core.Path.{_≡_};
 ghost use Prim.Native.Nat.{_≤_};
 ghost use lib.IntN.{pos};
 ghost use lib.ListN.{set};
-ghost use Rattle.text.specs.Over.{clearedFrom};
+ghost use Rattle.output.specs.Over.{clearedFrom};
 ghost use Rattle.shape.specs.Stored.{valuesOf};
 ghost use Rattle.expanding.specs.Expand.{plainOf, sumsOf, freshOf, traceOf};
 ghost use Rattle.expanding.specs.Alone.{Expansion};

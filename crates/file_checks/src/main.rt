@@ -21,13 +21,13 @@ struct Verdict {
 
 // Ends a line and hands it to standard output.
 fn finish(out: &mut [u8], at: usize) {
-    let next = text::put_byte(out, at, 10);
-    io::write_all(STDOUT_FILENO, text::front(out, next));
+    let next = output::put_byte(out, at, 10);
+    io::write_all(STDOUT_FILENO, output::front(out, next));
 }
 
 // Writes a number behind its name.
 fn put_named(out: &mut [u8], at: usize, name: &[u8], n: u64) -> usize {
-    let next = text::put_bytes(out, at, name);
+    let next = output::put_bytes(out, at, name);
     print::put_integer(out, next, n)
 }
 
@@ -36,7 +36,7 @@ fn put_numbers(out: &mut [u8], at: usize, numbers: &[i64]) -> usize {
     let mut place = at;
     let mut i = 0;
     while i < numbers.len() {
-        let next = text::put_byte(out, place, 32);
+        let next = output::put_byte(out, place, 32);
         place = print::put_signed(out, next, numbers[i]);
         i += 1;
     }
@@ -46,7 +46,7 @@ fn put_numbers(out: &mut [u8], at: usize, numbers: &[i64]) -> usize {
 // Writes a line of numbers behind its name.
 fn show_numbers(name: &[u8], numbers: &[i64]) {
     let mut out = [0u8; 512];
-    let a = text::put_bytes(&mut out, 0, name);
+    let a = output::put_bytes(&mut out, 0, name);
     let b = put_numbers(&mut out, a, numbers);
     finish(&mut out, b);
 }
@@ -329,7 +329,7 @@ fn show<'a>(number: u64, file: &'a [u8], site: &'a [u8]) {
 
 // What the k-th field of a line is worth as a count of bytes.
 fn read_count(line: &[u8], k: usize) -> Natural {
-    numeral::read_integer(text::field(line, k), 0, 9999999999)
+    numeral::read_integer(fields::field(line, k), 0, 9999999999)
 }
 
 // Is there a count?
@@ -342,7 +342,7 @@ fn is_count(count: Natural) -> bool {
 
 // Is this the head line of a record: two counts?
 fn is_head(line: &[u8]) -> bool {
-    if text::field_count(line) != 2 {
+    if fields::field_count(line) != 2 {
         return false;
     }
     if is_count(read_count(line, 0)) {

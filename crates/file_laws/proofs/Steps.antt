@@ -8,7 +8,7 @@ use native.Mathlib.Omega.{arith}
 use lib.Dec.{eqb}
 use lib.IntN.{ℤ, pos, natAbs}
 use lib.ListN.{length, getD}
-use Rattle.text.specs.Fields.{fieldsOf}
+use Rattle.fields.specs.Fields.{fieldsOf}
 use Rattle.text.specs.Marks.{markOf, breaksLine}
 use Rattle.text.specs.declared.Mark.{Mark}
 use Rattle.text.specs.declared.Mark.the-variants.{Blank, Comment, Section as SectionLine, Plain}

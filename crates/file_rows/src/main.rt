@@ -17,13 +17,13 @@ fn write(text: &[u8]) {
 
 // Ends a line and hands it to standard output.
 fn finish(out: &mut [u8], at: usize) {
-    let next = text::put_byte(out, at, 10);
-    write(text::front(out, next));
+    let next = output::put_byte(out, at, 10);
+    write(output::front(out, next));
 }
 
 // Writes a number behind its name.
 fn put_named(out: &mut [u8], at: usize, name: &[u8], n: u64) -> usize {
-    let next = text::put_bytes(out, at, name);
+    let next = output::put_bytes(out, at, name);
     print::put_integer(out, next, n)
 }
 
@@ -32,7 +32,7 @@ fn put_numbers(out: &mut [u8], at: usize, numbers: &[i64]) -> usize {
     let mut place = at;
     let mut i = 0;
     while i < numbers.len() {
-        let next = text::put_byte(out, place, 32);
+        let next = output::put_byte(out, place, 32);
         place = print::put_signed(out, next, numbers[i]);
         i += 1;
     }
@@ -44,8 +44,8 @@ fn put_value(out: &mut [u8], at: usize, value: &[u8]) -> usize {
     if value.len() == 0 {
         return at;
     }
-    let next = text::put_byte(out, at, 32);
-    text::put_bytes(out, next, value)
+    let next = output::put_byte(out, at, 32);
+    output::put_bytes(out, next, value)
 }
 
 // Writes a line with a number behind its name.
@@ -109,7 +109,7 @@ fn number_at(numbers: &[i64], i: usize) -> i64 {
 fn show_row(file: &[u8], k: usize, numbers: &[i64]) {
     let mut out = [0u8; 512];
     let a = print::put_integer(&mut out, 0, file::row_line(file, k) as u64);
-    let b = text::put_byte(&mut out, a, 58);
+    let b = output::put_byte(&mut out, a, 58);
     let c = put_numbers(&mut out, b, numbers);
     finish(&mut out, c);
     if signed::same(number_at(numbers, 0), 11) {
@@ -152,7 +152,7 @@ fn show_file(file: &[u8]) {
 fn show_definition<'a>(file: &'a [u8], site: &'a [u8], key: &[u8]) {
     let value = definitions::definition(file, site, key);
     let mut out = [0u8; 2048];
-    let a = text::put_bytes(&mut out, 0, key);
+    let a = output::put_bytes(&mut out, 0, key);
     let b = put_named(&mut out, a, b" ", value.len() as u64);
     let c = put_value(&mut out, b, value);
     finish(&mut out, c);
@@ -180,7 +180,7 @@ fn show<'a>(number: u64, file: &'a [u8], site: &'a [u8]) {
 
 // What the k-th field of a line is worth as a count of bytes.
 fn read_count(line: &[u8], k: usize) -> Natural {
-    numeral::read_integer(text::field(line, k), 0, 9999999999)
+    numeral::read_integer(fields::field(line, k), 0, 9999999999)
 }
 
 // Is there a count?
@@ -193,7 +193,7 @@ fn is_count(count: Natural) -> bool {
 
 // Is this the head line of a record: two counts?
 fn is_head(line: &[u8]) -> bool {
-    if text::field_count(line) != 2 {
+    if fields::field_count(line) != 2 {
         return false;
     }
     if is_count(read_count(line, 0)) {

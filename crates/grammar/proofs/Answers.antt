@@ -7,7 +7,7 @@ use native.Mathlib.Omega.{arith}
 use borrow.Author.Tests.{le-leb}
 use lib.IntN.{ℤ, pos}
 use lib.ListN.{length, getD, replicate}
-use Rattle.text.specs.Fields.{fieldsOf}
+use Rattle.fields.specs.Fields.{fieldsOf}
 use Rattle.text.specs.Marks.{markOf, breaksLine}
 use Rattle.text.specs.Words.{sameBytes}
 use Rattle.signed.specs.Signed.{largest, signedOf}

@@ -4,7 +4,7 @@ use mathlib.Core.Bool.{Bool}
 use mathlib.Core.List.{List, []}
 use lib.Dec.{leb}
 use lib.ListN.{length, drop, getD}
-use Rattle.text.specs.Fields.{fieldsOf, fieldAt, trimmed}
+use Rattle.fields.specs.Fields.{fieldsOf, fieldAt, trimmed}
 
 -- the key is the first field, the value all that stands behind it
 unfoldable pub keyOf : List ℕ → List ℕ

@@ -5,7 +5,7 @@ use mathlib.Core.List.{List, [], _∷_}
 use lib.Dec.{eqb}
 use lib.IntN.{ℤ, pos}
 use lib.ListN.{getD, set}
-use Rattle.text.specs.Fields.{fieldsOf}
+use Rattle.fields.specs.Fields.{fieldsOf}
 use Rattle.text.specs.Marks.{markOf, breaksLine}
 use Rattle.text.specs.Words.{sameBytes}
 use Rattle.text.specs.declared.Mark.{Mark}

@@ -5,7 +5,7 @@ ghost use mathlib.Core.List.{_∷_};
 ghost use Rattle.grammar.specs.Definitions.{valueOf};
 ghost use Rattle.grammar.specs.Steps.{gaveOf, definedOf, blankStep, definitionStep, rowStep, labelStep, listedOf, extensionStep, listedStep, extensionsStep, headStep, countedOf, countStep, valueRow, linesStep, plainStep, stepOf};
 ghost use Rattle.shape.specs.Stored.{itemOf};
-ghost use Rattle.text.specs.Fields.{fieldsOf};
+ghost use Rattle.fields.specs.Fields.{fieldsOf};
 ghost use Prim.Native.Nat.{_≤_};
 ghost use lib.ListN.{replicate};
 use columns::Form;
@@ -74,8 +74,8 @@ fn blank_step(st: State) -> Stepped
 pub fn value(line: &[u8]) -> &[u8]
     ensures { λ r. ⌜ now r ≡ valueOf (now (line .entry)) ⌝ }
 {
-    let key = text::next_field(line, 0);
-    let part = text::trim(line, key.stop);
+    let key = fields::next_field(line, 0);
+    let part = fields::trim(line, key.stop);
     let start = part.start;
     let stop = part.stop;
     &line[start..stop]
@@ -171,7 +171,7 @@ fn listed_step(st: State, n: usize, listed: Listed, line: &[u8]) -> Stepped
 fn extensions_step(st: State, n: usize, listed: Listed, line: &[u8]) -> Stepped
     ensures { λ r. ⌜ r ≡ extensionsStep st n (fieldsOf (now (line .entry))) listed ⌝ }
 {
-    if text::same(text::field(line, 0), b"extension") {
+    if text::same(fields::field(line, 0), b"extension") {
         return extension_step(st, n, line);
     }
     listed_step(st, n, listed, line)

@@ -5,7 +5,7 @@ use mathlib.Core.Path.{_≡_, refl}
 use lib.IntN.{pos, negsuc}
 use Rattle.text.specs.Lines.{onto}
 use Rattle.text.specs.Marks.{isBlank}
-use Rattle.text.specs.Fields.{endsField, fieldsOf}
+use Rattle.fields.specs.Fields.{endsField, fieldsOf}
 use Rattle.text.specs.Words.{sameBytes, placeFrom}
 use Rattle.signed.specs.Signed.{signedOf}
 use Rattle.numeral.specs.Digits.{isDigit, allDigits, valueFrom, isMinus}

@@ -1,7 +1,7 @@
 // Lines that have a form of their own: labels, `extension` lines, and the two lines of a shape's head.
 ghost use mathlib.Core.Path.{_≡_};
 ghost use mathlib.Core.Bool.{false};
-ghost use Rattle.text.specs.Fields.{fieldsOf};
+ghost use Rattle.fields.specs.Fields.{fieldsOf};
 ghost use Rattle.text.specs.Words.{placeOf};
 ghost use Rattle.numeral.specs.Integer.{integerOf, signedAs};
 ghost use Rattle.heads.specs.Heads.{labelNames, labelValue, labelOf, labelFields, isNameByte, isName, extensionNames, extensionOf, extensionFields, wordNumberOf};
@@ -58,7 +58,7 @@ fn label_value(edition: Edition, increment: bool, label: usize, field: &[u8]) ->
 fn label_place(name: &[u8]) -> usize
     ensures { λ r. ⌜ r ≡ placeOf labelNames (now (name .entry)) ⌝ }
 {
-    text::word_place(
+    fields::word_place(
         b"LIN PAR SLC SEG REP AVG SET ECO PHS NAV REV SMS ONCE",
         name,
     )
@@ -82,15 +82,15 @@ fn label_in(edition: Edition, increment: bool, id: &[u8], value: &[u8], name: &[
 pub fn read_label(edition: Edition, increment: bool, line: &[u8]) -> Head
     ensures { λ r. ⌜ r ≡ labelOf edition increment (fieldsOf (now (line .entry))) ⌝ }
 {
-    if text::field_count(line) != 3 {
+    if fields::field_count(line) != 3 {
         return Head::Bad;
     }
     label_in(
         edition,
         increment,
-        text::field(line, 0),
-        text::field(line, 1),
-        text::field(line, 2),
+        fields::field(line, 0),
+        fields::field(line, 1),
+        fields::field(line, 2),
     )
 }
 
@@ -143,7 +143,7 @@ fn is_name(name: &[u8]) -> bool
 fn extension_code(name: &[u8]) -> usize
     ensures { λ r. ⌜ r ≡ placeOf extensionNames (now (name .entry)) ⌝ }
 {
-    text::word_place(b"TRIGGERS LABELSET LABELINC", name)
+    fields::word_place(b"TRIGGERS LABELSET LABELINC", name)
 }
 
 // The three fields of an `extension` line.
@@ -166,13 +166,13 @@ fn extension_in(word: &[u8], name: &[u8], number: &[u8]) -> Head
 pub fn read_extension(line: &[u8]) -> Head
     ensures { λ r. ⌜ r ≡ extensionOf (fieldsOf (now (line .entry))) ⌝ }
 {
-    if text::field_count(line) != 3 {
+    if fields::field_count(line) != 3 {
         return Head::Bad;
     }
     extension_in(
-        text::field(line, 0),
-        text::field(line, 1),
-        text::field(line, 2),
+        fields::field(line, 0),
+        fields::field(line, 1),
+        fields::field(line, 2),
     )
 }
 
@@ -180,11 +180,11 @@ pub fn read_extension(line: &[u8]) -> Head
 pub fn read_word_number(line: &[u8], word: &[u8], low: u64, high: u64) -> Natural
     ensures { λ r. ⌜ r ≡ wordNumberOf (now (word .entry)) low high (fieldsOf (now (line .entry))) ⌝ }
 {
-    if text::field_count(line) != 2 {
+    if fields::field_count(line) != 2 {
         return Natural::Bad;
     }
-    if !text::same(text::field(line, 0), word) {
+    if !text::same(fields::field(line, 0), word) {
         return Natural::Bad;
     }
-    numeral::read_integer(text::field(line, 1), low, high)
+    numeral::read_integer(fields::field(line, 1), low, high)
 }

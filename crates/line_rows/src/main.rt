@@ -8,14 +8,14 @@ use shape::Edition;
 
 // Writes how an answer begins: what the line was read as.
 fn put_name(out: &mut [u8], name: &[u8]) -> usize {
-    let next = text::put_bytes(out, 0, b"  ");
-    text::put_bytes(out, next, name)
+    let next = output::put_bytes(out, 0, b"  ");
+    output::put_bytes(out, next, name)
 }
 
 // Ends an answer and hands it to standard output.
 fn finish(out: &mut [u8], at: usize) {
-    let next = text::put_byte(out, at, 10);
-    io::write_all(STDOUT_FILENO, text::front(out, next));
+    let next = output::put_byte(out, at, 10);
+    io::write_all(STDOUT_FILENO, output::front(out, next));
 }
 
 // Writes numbers, each behind a space.
@@ -23,7 +23,7 @@ fn put_numbers(out: &mut [u8], at: usize, numbers: &[i64]) -> usize {
     let mut place = at;
     let mut i = 0;
     while i < numbers.len() {
-        let next = text::put_byte(out, place, 32);
+        let next = output::put_byte(out, place, 32);
         place = print::put_signed(out, next, numbers[i]);
         i += 1;
     }
@@ -40,7 +40,7 @@ fn show_row(edition: Edition, name: &[u8], form: Form, line: &[u8]) {
     let mut out = [0u8; 1024];
     let a = put_name(&mut out, name);
     let b = put_numbers(&mut out, a, &cells);
-    let c = text::put_bytes(&mut out, b, b" | ");
+    let c = output::put_bytes(&mut out, b, b" | ");
     let d = row_text::put_row(&mut out, c, edition, form, &cells);
     finish(&mut out, d);
 }
@@ -51,10 +51,10 @@ fn show_label(edition: Edition, name: &[u8], increment: bool, line: &[u8]) {
         Head::Label(id, value, label) => {
             let mut out = [0u8; 1024];
             let a = put_name(&mut out, name);
-            let b = text::put_byte(&mut out, a, 32);
+            let b = output::put_byte(&mut out, a, 32);
             let c = print::put_integer(&mut out, b, id);
             let d = put_numbers(&mut out, c, &[value]);
-            let e = text::put_byte(&mut out, d, 32);
+            let e = output::put_byte(&mut out, d, 32);
             let f = print::put_integer(&mut out, e, label as u64);
             finish(&mut out, f);
         }
@@ -70,7 +70,7 @@ fn show_extension(line: &[u8]) {
             let mut out = [0u8; 1024];
             let a = put_name(&mut out, b"extension ");
             let b = print::put_integer(&mut out, a, number);
-            let c = text::put_byte(&mut out, b, 32);
+            let c = output::put_byte(&mut out, b, 32);
             let d = print::put_integer(&mut out, c, code as u64);
             finish(&mut out, d);
         }
@@ -85,7 +85,7 @@ fn show_head(word: &[u8], most: u64, line: &[u8]) {
         Natural::Value(n) => {
             let mut out = [0u8; 1024];
             let a = put_name(&mut out, word);
-            let b = text::put_byte(&mut out, a, 32);
+            let b = output::put_byte(&mut out, a, 32);
             let c = print::put_integer(&mut out, b, n);
             finish(&mut out, c);
         }

@@ -31,7 +31,7 @@ fn count_nonzero(samples: &[i64]) -> usize {
 
 // Writes a number under its name.
 fn put_count(out: &mut [u8], at: usize, name: &[u8], n: u64) -> usize {
-    let next = text::put_bytes(out, at, name);
+    let next = output::put_bytes(out, at, name);
     print::put_integer(out, next, n)
 }
 
@@ -40,8 +40,8 @@ fn show(e: Expanded) {
     let mut out = [0u8; 64];
     let a = put_count(&mut out, 0, b"answer ", e.number());
     let b = put_count(&mut out, a, b" used ", e.used() as u64);
-    let c = text::put_byte(&mut out, b, 10);
-    io::write_all(STDOUT_FILENO, text::front(&out, c));
+    let c = output::put_byte(&mut out, b, 10);
+    io::write_all(STDOUT_FILENO, output::front(&out, c));
 }
 
 // The sample at a place; 0 if there is none.
@@ -54,7 +54,7 @@ fn sample_at(samples: &[i64], i: usize) -> i64 {
 
 // Writes a sample under its name.
 fn put_sample(out: &mut [u8], at: usize, name: &[u8], z: i64) -> usize {
-    let next = text::put_bytes(out, at, name);
+    let next = output::put_bytes(out, at, name);
     print::put_signed(out, next, z)
 }
 
@@ -64,8 +64,8 @@ fn show_samples(samples: &[i64]) {
     let a = put_sample(&mut out, 0, b"first ", sample_at(samples, 0));
     let b = put_sample(&mut out, a, b" last ", sample_at(samples, 399999));
     let c = put_count(&mut out, b, b" nonzero ", count_nonzero(samples) as u64);
-    let d = text::put_byte(&mut out, c, 10);
-    io::write_all(STDOUT_FILENO, text::front(&out, d));
+    let d = output::put_byte(&mut out, c, 10);
+    io::write_all(STDOUT_FILENO, output::front(&out, d));
 }
 
 // Expands a million stored values: run-length in 1.3, plain in 1.4, and one too many in 1.3.

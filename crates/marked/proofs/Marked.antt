@@ -7,7 +7,7 @@ use lib.IntN.{ℤ, pos, negsuc}
 use lib.ListN.{replicate}
 use Rattle.text.specs.Marks.{isBlank, markOf, isComment, isControl, anyControl, breaksLine}
 use Rattle.text.specs.Lines.{onto}
-use Rattle.text.specs.Fields.{endsField, fieldsOf}
+use Rattle.fields.specs.Fields.{endsField, fieldsOf}
 use Rattle.signed.specs.Signed.{sameZ, isNegative, signedOf, within}
 use Rattle.numeral.specs.Digits.{isDigit, allDigits, valueFrom, isMinus, signLen}
 use Rattle.numeral.specs.Integer.{inRange, signedAs}

@@ -8,14 +8,14 @@ use numeral::Signed;
 
 // Writes what parts two worths, and the name of the next one.
 fn put_name(out: &mut [u8], at: usize, name: &[u8]) -> usize {
-    let behind = text::put_bytes(out, at, b" | ");
-    let next = text::put_bytes(out, behind, name);
-    text::put_byte(out, next, 32)
+    let behind = output::put_bytes(out, at, b" | ");
+    let next = output::put_bytes(out, behind, name);
+    output::put_byte(out, next, 32)
 }
 
 // Writes a minus alone: there is no such worth.
 fn put_refused(out: &mut [u8], at: usize) -> usize {
-    text::put_byte(out, at, 45)
+    output::put_byte(out, at, 45)
 }
 
 // Writes a natural number under its name.
@@ -67,7 +67,7 @@ fn put_pair(out: &mut [u8], at: usize, d: Decimal) -> usize {
     let e = d.exponent;
     let next = put_name(out, at, b"decimal");
     let behind = print::put_signed(out, next, m);
-    let last = text::put_byte(out, behind, 32);
+    let last = output::put_byte(out, behind, 32);
     print::put_signed(out, last, e)
 }
 
@@ -89,7 +89,7 @@ fn put_texts(out: &mut [u8], at: usize, d: Decimal) -> usize {
 
 // Writes that a field is no decimal.
 fn put_no_decimal(out: &mut [u8], at: usize) -> usize {
-    text::put_bytes(
+    output::put_bytes(
         out,
         at,
         b" | decimal - | dwell - | raster - | count - | steps - | again - | sample -",
@@ -111,11 +111,11 @@ fn put_decimal(out: &mut [u8], at: usize, field: &[u8]) -> usize {
 // Writes the line for one field.
 fn show(field: &[u8]) {
     let mut out = [0u8; 1024];
-    let a = text::put_bytes(&mut out, 0, field);
+    let a = output::put_bytes(&mut out, 0, field);
     let b = put_integers(&mut out, a, field);
     let c = put_decimal(&mut out, b, field);
-    let d = text::put_byte(&mut out, c, 10);
-    io::write_all(STDOUT_FILENO, text::front(&out, d));
+    let d = output::put_byte(&mut out, c, 10);
+    io::write_all(STDOUT_FILENO, output::front(&out, d));
 }
 
 // Writes a line for each line of the input.

@@ -6,8 +6,8 @@ use mathlib.Core.Path.{_≡_, refl}
 use native.Mathlib.Omega.{arith}
 use lib.IntN.{ℤ, pos, natAbs}
 use lib.ListN.{length, length-append}
-use Rattle.text.proofs.Fields.{Word}
-use Rattle.text.proofs.Visible.{isVisible, allVisible, visible-yes, visible-append, visible-word}
+use Rattle.fields.proofs.Fields.{Word}
+use Rattle.fields.proofs.Visible.{isVisible, allVisible, visible-yes, visible-append, visible-word}
 use Rattle.signed.specs.Signed.{isNegative, sameZ}
 use Rattle.numeral.specs.Digits.{isDigit, allDigits}
 use Rattle.numeral.specs.declared.Decimal.{Decimal}

@@ -6,8 +6,8 @@ use mathlib.Core.Path.{_≡_, refl, ap, _∙_, sym}
 use native.Mathlib.Omega.{arith}
 use borrow.Author.Tests.{eq-eqb, ne-eqb}
 use lib.IntN.{ℤ, pos, negsuc, natAbs, _+ℤ_}
-use Rattle.text.specs.Over.{Put}
-use Rattle.text.proofs.Over.{put-then}
+use Rattle.output.specs.Over.{Put}
+use Rattle.output.proofs.Over.{put-then}
 use Rattle.signed.specs.Signed.{isNegative, sameZ, signedOf, largest}
 use Rattle.signed.proofs.Difference.{sub-same}
 use Rattle.signed.proofs.Sign.{signed-sub, size-signed, negative-signed, positive-signed}

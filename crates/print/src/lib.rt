@@ -3,7 +3,7 @@ ghost use mathlib.Core.Path.{_≡_};
 ghost use mathlib.Core.List.{_++_};
 ghost use Prim.Native.Nat.{_≤_, _^_};
 ghost use lib.IntN.{pos, negsuc, _+ℤ_};
-ghost use Rattle.text.specs.Over.{Put};
+ghost use Rattle.output.specs.Over.{Put};
 ghost use Rattle.print.specs.Printed.{digitsOf, numberText, signedText, powerText, decimalText, sampleText};
 use numeral::Decimal;
 
@@ -12,10 +12,10 @@ pub fn put_integer(out: &mut [u8], at: usize, n: u64) -> usize
     ensures { λ r. ⌜ Put (now (out .entry)) at (digitsOf n) r (now (out .exit)) ⌝ }
 {
     if n < 10 {
-        return text::put_byte(out, at, 48 + n as u8);
+        return output::put_byte(out, at, 48 + n as u8);
     }
     let next = put_integer(out, at, n / 10);
-    text::put_byte(out, next, 48 + (n % 10) as u8)
+    output::put_byte(out, next, 48 + (n % 10) as u8)
 }
 
 // Writes a size with its sign.
@@ -23,7 +23,7 @@ fn put_number(out: &mut [u8], at: usize, negative: bool, size: u64) -> usize
     ensures { λ r. ⌜ Put (now (out .entry)) at (numberText negative size) r (now (out .exit)) ⌝ }
 {
     if negative {
-        let next = text::put_byte(out, at, 45);
+        let next = output::put_byte(out, at, 45);
         return put_integer(out, next, size);
     }
     put_integer(out, at, size)
@@ -44,7 +44,7 @@ fn put_scaled(out: &mut [u8], at: usize, negative: bool, size: u64, e: i64) -> u
     if signed::same(e, 0) {
         return behind;
     }
-    let next = text::put_byte(out, behind, 101);
+    let next = output::put_byte(out, behind, 101);
     put_signed(out, next, e)
 }
 
@@ -74,7 +74,7 @@ pub fn put_sample(out: &mut [u8], at: usize, steps: i64) -> usize
 {
     let size = signed::size(steps);
     if size == 0 {
-        return text::put_byte(out, at, 48);
+        return output::put_byte(out, at, 48);
     }
     let t = decimals::strip(size);
     let v = t.v;

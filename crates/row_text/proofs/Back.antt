@@ -7,8 +7,8 @@ use mathlib.Core.Path.{_≡_, refl, ap, sym, _∙_}
 use native.Mathlib.Omega.{arith}
 use lib.IntN.{ℤ, pos}
 use lib.ListN.{getD, drop}
-use Rattle.text.specs.Fields.{fieldsOf}
-use Rattle.text.proofs.Fields.{Word, AllWords, none-left, one-more, fields-joined}
+use Rattle.fields.specs.Fields.{fieldsOf}
+use Rattle.fields.proofs.Fields.{Word, AllWords, none-left, one-more, fields-joined}
 use Rattle.decimals.specs.Decimal.{decimalOf}
 use Rattle.numeral.specs.Kept.{Kept}
 use Rattle.print.specs.Printed.{digitsOf}

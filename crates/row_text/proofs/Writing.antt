@@ -9,9 +9,9 @@ use native.Mathlib.Numerals.{add-one}
 use lib.IntN.{ℤ, pos}
 use lib.ListN.{length, getD, drop, drop-of-length-le}
 use lib.Seq.{getD-drop, drop-cons, drop-drop}
-use Rattle.text.specs.Fields.{spaced, joined}
-use Rattle.text.specs.Over.{Put}
-use Rattle.text.proofs.Over.{put-none, put-then, put-length}
+use Rattle.fields.specs.Fields.{spaced, joined}
+use Rattle.output.specs.Over.{Put}
+use Rattle.output.proofs.Over.{put-none, put-then, put-length}
 use Rattle.print.specs.Printed.{signedText, decimalText}
 use Rattle.shape.specs.declared.Edition.{Edition}
 use Rattle.columns.specs.Columns.{columnsOf, isAbsent, widthOf}

@@ -1,20 +1,16 @@
 -- A row of twelve numbers, zeros behind its own, reads back when printed as its own numbers. Assumes nothing.
-use Prim.Native.Nat.{ℕ, zero, suc, _-_, _≤_}
+use Prim.Native.Nat.{_-_}
 use mathlib.Core.List.{List, [], _∷_, _++_}
 use mathlib.Core.Option.{some}
-use mathlib.Core.Path.{_≡_, refl, ap, _∙_}
-use native.Mathlib.Omega.{arith}
-use native.Mathlib.Nat.{zero-add, sub-zero, zero-sub, suc-sub-suc}
+use mathlib.Core.Path.{_≡_, refl, ap}
 use lib.IntN.{ℤ, pos}
 use lib.ListN.{length, drop, replicate}
-use lib.Seq.{sets-eq}
-use Rattle.text.specs.Fields.{fieldsOf, joined}
+use Rattle.fields.specs.Fields.{fieldsOf, joined}
 use Rattle.shape.specs.declared.Edition.{Edition}
 use Rattle.columns.specs.Columns.{columnsOf, formNumber}
-use Rattle.columns.specs.Rows.{blank, padded}
+use Rattle.columns.specs.Rows.{padded}
 use Rattle.rows.specs.Cells.{rowFrom}
 use Rattle.row_text.specs.Printed.{textsOf, rowText}
-use Rattle.columns.specs.Inside.{widthsOf}
 use Rattle.columns.specs.Ranges.{InRange, no-more, no-field, one-number, two-numbers}
 use Rattle.columns.specs.declared.Kind.{Kind}
 use Rattle.columns.specs.declared.Form.{Form}

@@ -5,7 +5,7 @@ use mathlib.Core.Bool.{cond}
 use mathlib.Core.List.{List, [], _∷_}
 use lib.IntN.{ℤ, pos}
 use lib.ListN.{drop, getD}
-use Rattle.text.specs.Fields.{joined}
+use Rattle.fields.specs.Fields.{joined}
 use Rattle.print.specs.Printed.{signedText, decimalText}
 use Rattle.columns.specs.Columns.{isAbsent, widthOf}
 use Rattle.columns.specs.declared.Kind.{Kind}

@@ -3,7 +3,7 @@ ghost use mathlib.Core.Path.{_≡_};
 ghost use Prim.Native.Nat.{_<_, _^_};
 ghost use lib.IntN.{pos};
 ghost use lib.ListN.{getD, drop};
-ghost use Rattle.text.specs.Over.{Put};
+ghost use Rattle.output.specs.Over.{Put};
 ghost use Rattle.columns.specs.Columns.{columnsOf, widthOf};
 ghost use Rattle.row_text.specs.Printed.{fieldText, rowText};
 ghost use Rattle.row_text.specs.Inside.{columnText};
@@ -55,7 +55,7 @@ fn put_field(out: &mut [u8], at: usize, kind: Kind, row: &[i64], w: usize) -> us
             };
             print::put_decimal(out, at, d)
         }
-        Kind::Absent => text::put_bytes(out, at, b""),
+        Kind::Absent => output::put_bytes(out, at, b""),
         Kind::Id => print::put_signed(out, at, first),
         Kind::Reference => print::put_signed(out, at, first),
         Kind::Required => print::put_signed(out, at, first),
@@ -73,9 +73,9 @@ fn put_column(out: &mut [u8], at: usize, kind: Kind, row: &[i64], w: usize) -> u
     ensures { λ r. ⌜ Put (now (out .entry)) at (columnText kind (drop w (now (row .entry)))) r (now (out .exit)) ⌝ }
 {
     if columns::is_absent(kind) {
-        return text::put_bytes(out, at, b"");
+        return output::put_bytes(out, at, b"");
     }
-    let next = text::put_byte(out, at, 32);
+    let next = output::put_byte(out, at, 32);
     put_field(out, next, kind, row, w)
 }
 

@@ -6,7 +6,7 @@ use mathlib.Core.Path.{_≡_, refl}
 use lib.IntN.{ℤ, pos, negsuc}
 use Rattle.text.specs.Lines.{onto}
 use Rattle.text.specs.Marks.{isBlank}
-use Rattle.text.specs.Fields.{endsField, fieldsOf}
+use Rattle.fields.specs.Fields.{endsField, fieldsOf}
 use Rattle.signed.specs.Signed.{isNegative, signedOf}
 use Rattle.numeral.specs.Digits.{isDigit, allDigits, valueFrom, isMinus, signLen}
 use Rattle.numeral.specs.Integer.{inRange, isInteger, integerOf}

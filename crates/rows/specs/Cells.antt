@@ -1,7 +1,7 @@
 -- The fields of a line read by a list of columns into a row's numbers. "A decimal as two numbers, dwell as ns, an absent time
 -- as 0."
 use Prim.Native.Nat.{ℕ}
-use mathlib.Core.Bool.{Bool, true, false, cond}
+use mathlib.Core.Bool.{true, false, cond}
 use mathlib.Core.List.{List, [], _∷_}
 use mathlib.Core.Option.{Option, none, some}
 use lib.IntN.{ℤ, pos}

@@ -4,7 +4,7 @@ use mathlib.Core.List.{List, _∷_}
 use mathlib.Core.Option.{none}
 use mathlib.Core.Path.{_≡_}
 use lib.ListN.{drop}
-use Rattle.text.specs.Fields.{fieldsOf}
+use Rattle.fields.specs.Fields.{fieldsOf}
 use Rattle.columns.specs.Columns.{widthOf}
 use Rattle.columns.specs.declared.Kind.{Kind}
 use Rattle.rows.specs.Cells.{with, rowFrom}

@@ -1,7 +1,7 @@
 // Rows: a line read by the columns of its section into a row's twelve numbers.
 ghost use mathlib.Core.Path.{_≡_};
 ghost use mathlib.Core.Option.{none};
-ghost use Rattle.text.specs.Fields.{fieldsOf};
+ghost use Rattle.fields.specs.Fields.{fieldsOf};
 ghost use Rattle.decimals.specs.Decimal.{decimalOf};
 ghost use Rattle.columns.specs.Columns.{columnsOf, leastOf, mostOf};
 ghost use Rattle.rows.specs.Cells.{integerCell, decimalCell, dwellCell, cellOf, rowFrom, rowIs};
@@ -133,7 +133,7 @@ fn take_cell(line: &[u8], at: usize, kind: Kind) -> Taken
     if columns::is_absent(kind) {
         return Taken::One(0, at);
     }
-    let field = text::next_field(line, at);
+    let field = fields::next_field(line, at);
     let start = field.start;
     let stop = field.stop;
     if line.len() <= start {
@@ -189,7 +189,7 @@ pub fn read_row(edition: Edition, form: Form, line: &[u8]) -> Row
             }
         }
     }
-    let rest = text::next_field(line, at);
+    let rest = fields::next_field(line, at);
     if rest.start < line.len() {
         return bad_row();
     }

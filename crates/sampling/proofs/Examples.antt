@@ -6,7 +6,8 @@ use lib.IntN.{ℤ, pos, negsuc}
 use lib.ListN.{replicate}
 use Rattle.text.specs.Lines.{startsLF, onto, linesOf, wholeLinesOf, bareLen, bareOf}
 use Rattle.text.specs.Marks.{isBlank, markOf, isComment, isControl, anyControl, breaksLine}
-use Rattle.text.specs.Fields.{endsField, fieldsOf, blankLen, bodyLen, trimmed}
+use Rattle.text.specs.Blanks.{blankLen}
+use Rattle.fields.specs.Fields.{endsField, fieldsOf, bodyLen, trimmed}
 use Rattle.text.specs.Words.{sameBytes, placeFrom}
 use Rattle.signed.specs.Signed.{sameZ, isNegative, signedOf, within}
 use Rattle.numeral.specs.Digits.{isDigit, allDigits, valueFrom, isMinus, signLen}

@@ -7,7 +7,7 @@ use mathlib.Core.Logic.{⊎-elim}
 use native.Mathlib.Omega.{arith}
 use borrow.Author.Tests.{ne-eqb, le-leb, lt-leb, eqb-true}
 use lib.Dec.{eqb}
-use Rattle.text.specs.Fields.{trimmed}
+use Rattle.fields.specs.Fields.{trimmed}
 use Rattle.text.specs.Words.{placeOf}
 use Rattle.text.proofs.Cases.{lt-or-ge}
 use Rattle.shape.specs.declared.Edition.{Edition}

@@ -1,7 +1,7 @@
 // Section lines where a file stands, and the rows of VERSION.
 ghost use mathlib.Core.Path.{_≡_};
 ghost use Prim.Native.Nat.{_<_};
-ghost use Rattle.text.specs.Fields.{fieldsOf};
+ghost use Rattle.fields.specs.Fields.{fieldsOf};
 ghost use Rattle.places.specs.Places.{wentOf};
 ghost use Rattle.sections.specs.Sections.{hasSection, sectionNo, placeIn};
 ghost use Rattle.sections.specs.Entering.{mayEnter, entered, enterOf, earlySection, sectionAt, sectionStep};
@@ -21,10 +21,10 @@ use shape::Edition;
 fn section_no(line: &[u8]) -> usize
     ensures { λ r. ⌜ r ≡ sectionNo (now (line .entry)) ⌝ }
 {
-    let part = text::trim(line, 0);
+    let part = fields::trim(line, 0);
     let start = part.start;
     let stop = part.stop;
-    text::word_place(
+    fields::word_place(
         b"[VERSION] [DEFINITIONS] [BLOCKS] [RF] [GRADIENTS] [TRAP] [ADC] [EXTENSIONS] [SHAPES] [DELAYS] [SIGNATURE]",
         &line[start..stop],
     )

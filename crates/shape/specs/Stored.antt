@@ -5,7 +5,7 @@ use mathlib.Core.List.{List, [], _∷_}
 use lib.ListN.{length, drop}
 use Rattle.text.specs.Lines.{linesOf}
 use Rattle.text.specs.Marks.{markOf, breaksLine}
-use Rattle.text.specs.Fields.{fieldsOf}
+use Rattle.fields.specs.Fields.{fieldsOf}
 use Rattle.text.specs.declared.Mark.{Mark}
 use Rattle.text.specs.declared.Mark.the-variants.{Blank, Comment, Section, Plain}
 use Rattle.decimals.specs.Decimal.{decimalOf}

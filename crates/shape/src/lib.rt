@@ -1,7 +1,7 @@
 // The parts of a shape: the editions, what a stored line holds, how many values the lines hold, whether these are the samples themselves, the
 // sample that a value makes of the sum so far, and what expanding can answer.
 ghost use mathlib.Core.Path.{_≡_};
-ghost use Rattle.text.specs.Fields.{fieldsOf};
+ghost use Rattle.fields.specs.Fields.{fieldsOf};
 ghost use Rattle.shape.specs.Stored.{fieldsItem, itemOf, countOf};
 ghost use Rattle.shape.specs.Samples.{addOf, isPlain};
 ghost use Rattle.shape.specs.Answers.{numberOf, usedOf};
@@ -68,10 +68,10 @@ pub enum Count {
 fn field_item(line: &[u8]) -> Item
     ensures { λ r. ⌜ r ≡ fieldsItem (fieldsOf (now (line .entry))) ⌝ }
 {
-    if text::field_count(line) != 1 {
+    if fields::field_count(line) != 1 {
         return Item::Bad;
     }
-    match decimals::read_decimal(text::field(line, 0)) {
+    match decimals::read_decimal(fields::field(line, 0)) {
         Number::Value(d) => Item::Value(d),
         Number::Bad => Item::Bad,
     }

@@ -11,8 +11,8 @@ use lib.ListN.{length}
 use Rattle.text.specs.Marks.{isBlank, markOf, isComment, breaksLine}
 use Rattle.text.specs.declared.Mark.the-variants.{Plain}
 use Rattle.text.proofs.Cases.{and-both, lt-or-ge}
-use Rattle.text.proofs.Fields.{Word, fields-last}
-use Rattle.text.proofs.Visible.{allVisible, visible-plain}
+use Rattle.fields.proofs.Fields.{Word, fields-last}
+use Rattle.fields.proofs.Visible.{allVisible, visible-plain}
 use Rattle.signed.specs.Signed.{isNegative}
 use Rattle.numeral.specs.Digits.{isDigit, allDigits}
 use Rattle.decimals.specs.Decimal.{decimalOf}

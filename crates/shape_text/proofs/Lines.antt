@@ -7,8 +7,8 @@ use native.Mathlib.Omega.{arith}
 use lib.IntN.{ℤ, pos}
 use lib.ListN.{length, drop, getD, drop-of-length-le}
 use lib.Seq.{drop-cons}
-use Rattle.text.specs.Over.{Put, farthest}
-use Rattle.text.proofs.Over.{put-then, put-none, put-length}
+use Rattle.output.specs.Over.{Put, farthest}
+use Rattle.output.proofs.Over.{put-then, put-none, put-length}
 use Rattle.print.specs.Printed.{sampleText, digitsOf}
 use Rattle.shape_text.specs.Written.{Run, endedLines, runLines, runsLines, packedLines, plainLines}
 use Rattle.shape_text.specs.Inside.{stepAt, runsFrom, RunAt}

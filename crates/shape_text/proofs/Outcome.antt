@@ -9,9 +9,9 @@ use lib.Dec.{leb}
 use lib.IntN.{ℤ}
 use lib.ListN.{length, take, replicate}
 use borrow.Author.Tests.{le-leb, lt-leb, le-ltb, lt-ltb}
-use Rattle.text.specs.Over.{Put, clearedFrom}
+use Rattle.output.specs.Over.{Put, clearedFrom}
 use Rattle.text.proofs.Cases.{lt-or-ge}
-use Rattle.text.proofs.Over.{put-front, put-length}
+use Rattle.output.proofs.Over.{put-front, put-length}
 use Rattle.shape.specs.declared.Edition.{Edition}
 use Rattle.shape.specs.declared.Edition.the-variants.{V13, V14}
 use Rattle.shape_text.specs.declared.Written.the-variants.{Text, Shape, Output}

@@ -5,7 +5,7 @@ use mathlib.Core.List.{List, [], _∷_, _++_}
 use mathlib.Core.Path.{_≡_, refl, ap, _∙_}
 use lib.ListN.{length}
 use Rattle.text.specs.Lines.{linesOf}
-use Rattle.text.proofs.Visible.{allVisible, visible-line}
+use Rattle.fields.proofs.Visible.{allVisible, visible-line}
 use Rattle.text.proofs.Lines.{lines-line}
 use Rattle.numeral.specs.declared.Decimal.{Decimal}
 use Rattle.shape.specs.Stored.{itemOf, isSound, allSound, withItem, valuesIn, valuesOf}

@@ -4,7 +4,7 @@ ghost use mathlib.Core.List.{[], _∷_};
 ghost use mathlib.Core.Bool.{true};
 ghost use Prim.Native.Nat.{_-_, _<_};
 ghost use lib.ListN.{length};
-ghost use Rattle.text.specs.Over.{Put, clearedFrom};
+ghost use Rattle.output.specs.Over.{Put, clearedFrom};
 ghost use Rattle.print.specs.Printed.{sampleText};
 ghost use Rattle.shape_text.specs.Written.{isPlainText, endedLines, runLines, plainLines, packedLines, textOf, allWithin, isWritable, numberOf, lengthOf, Writing};
 ghost use Rattle.shape_text.specs.Inside.{stepAt, RunAt};
@@ -136,7 +136,7 @@ fn put_value(out: &mut [u8], at: usize, z: i64) -> usize
     ensures { λ r. ⌜ Put (now (out .entry)) at (endedLines (sampleText z ∷ [])) r (now (out .exit)) ⌝ }
 {
     let next = print::put_sample(out, at, z);
-    text::put_byte(out, next, 10)
+    output::put_byte(out, next, 10)
 }
 
 // Writes a run of n equal differences: the value, and for n of 2 and more the value again and n - 2.
@@ -150,7 +150,7 @@ fn put_run(out: &mut [u8], at: usize, d: i64, n: usize) -> usize
     }
     let second = put_value(out, first, d);
     let count = print::put_integer(out, second, (n - 2) as u64);
-    text::put_byte(out, count, 10)
+    output::put_byte(out, count, 10)
 }
 
 // Writes every run of differences.

@@ -18,7 +18,7 @@ fn number_of(field: &[u8]) -> u64 {
 
 // The number in the first field from a place on; 0 if there is none.
 fn number_at(line: &[u8], at: usize) -> u64 {
-    let field = text::next_field(line, at);
+    let field = fields::next_field(line, at);
     let start = field.start;
     let stop = field.stop;
     if line.len() <= start {
@@ -32,7 +32,7 @@ fn number_in(line: &[u8], before: usize) -> usize {
     let mut at = 0;
     let mut i = 0;
     while i < before {
-        let field = text::next_field(line, at);
+        let field = fields::next_field(line, at);
         at = field.stop;
         i += 1;
     }
@@ -49,11 +49,11 @@ fn edition_of(head: &[u8]) -> Edition {
 
 // Writes the line of an answer.
 fn put_answer(out: &mut [u8], at: usize, e: Expanded) -> usize {
-    let a = text::put_bytes(out, at, b"answer ");
+    let a = output::put_bytes(out, at, b"answer ");
     let b = print::put_integer(out, a, e.number());
-    let c = text::put_bytes(out, b, b" used ");
+    let c = output::put_bytes(out, b, b" used ");
     let d = print::put_integer(out, c, e.used() as u64);
-    text::put_byte(out, d, 10)
+    output::put_byte(out, d, 10)
 }
 
 // Writes a sample, behind a space if it is not the first.
@@ -61,7 +61,7 @@ fn put_sample(out: &mut [u8], at: usize, first: bool, z: i64) -> usize {
     if first {
         return print::put_signed(out, at, z);
     }
-    let next = text::put_byte(out, at, 32);
+    let next = output::put_byte(out, at, 32);
     print::put_signed(out, next, z)
 }
 
@@ -73,7 +73,7 @@ fn put_samples(out: &mut [u8], at: usize, samples: &[i64]) -> usize {
         place = put_sample(out, place, i == 0, samples[i]);
         i += 1;
     }
-    text::put_byte(out, place, 10)
+    output::put_byte(out, place, 10)
 }
 
 // Expands one case into what is lent, and writes its two lines.
@@ -82,7 +82,7 @@ fn expand(head: &[u8], stored: &[u8], samples: &mut [i64]) {
     let mut out = io::large_buffer();
     let a = put_answer(&mut out, 0, answer);
     let b = put_samples(&mut out, a, samples);
-    io::write_all(STDOUT_FILENO, text::front(&out, b));
+    io::write_all(STDOUT_FILENO, output::front(&out, b));
 }
 
 // Expands one case into the front of a table, as far as its head line lends it.

@@ -1,20 +1,16 @@
--- What a caller learns of next_line, next_field and trim: the first line, without its end and with it, and the first field cut off, a text
--- trimmed. Assumes nothing.
+-- What a caller learns of next_line: the first line, without its end and with it. Assumes nothing.
 use Prim.Native.Nat.{ℕ, zero, suc, _+_, _-_, _≤_, _<_}
 use mathlib.Core.Bool.{Bool, true, false, cond, _&&_, true≢false}
 use mathlib.Core.List.{List, [], _∷_, map}
 use mathlib.Core.Path.{_≡_, refl, sym, ap, _∙_}
 use native.Mathlib.Omega.{arith}
 use lib.Dec.{eqb}
-use lib.ListN.{length, take, drop, length-drop, drop-of-length-le}
+use lib.ListN.{length, take, drop, length-drop}
 use lib.Seq.{take-take, drop-drop}
 use Rattle.text.specs.Lines.{startsLF, onto, linesOf, wholeLinesOf, bareOf, bareLen, passLen, lineAt}
-use Rattle.text.specs.Marks.{isBlank}
-use Rattle.text.specs.Fields.{endsField, fieldsOf, blankLen, bodyLen, trimmed, wordLen, skipped, fieldAt, trimmedAt}
 use Rattle.text.specs.declared.Line.{Line}
-use Rattle.text.specs.declared.Part.{Part}
 
-add-sub-left : (a b : ℕ) → a + b - a ≡ b
+pub add-sub-left : (a b : ℕ) → a + b - a ≡ b
 add-sub-left a b = omega arith
 
 -- ---- lines
@@ -184,160 +180,3 @@ lines-bare-in (suc n) (c ∷ s) h =
 
 pub lines-bare : (t : List ℕ) → linesOf t ≡ map bareOf (wholeLinesOf t)
 lines-bare t = lines-bare-in (length t) t (omega arith)
-
--- ---- fields
-fields-skip : (s : List ℕ) → fieldsOf s ≡ fieldsOf (drop (blankLen s) s)
-unfolding fieldsOf blankLen
-fields-skip [] = refl
-fields-skip (c ∷ s) = go (isBlank c) refl (fields-skip s)
-  where
-    go : (b : Bool) → isBlank c ≡ b → fieldsOf s ≡ fieldsOf (drop (blankLen s) s) → fieldsOf (c ∷ s) ≡ fieldsOf (drop (cond b (suc (blankLen s)) 0) (c ∷ s))
-    go true e r = rw e r
-    go false e r = refl
-
-fields-cut : (c : ℕ) (s : List ℕ) → isBlank c ≡ false → fieldsOf (c ∷ s) ≡ take (wordLen (c ∷ s)) (c ∷ s) ∷ fieldsOf (drop (wordLen (c ∷ s)) (c ∷ s))
-unfolding fieldsOf wordLen endsField onto
-fields-cut c [] e = rw e
-fields-cut c (d ∷ s) e = rw e (go (isBlank d) refl (λ f. fields-cut d s f))
-  where
-    go : (b : Bool) → isBlank d ≡ b → (isBlank d ≡ false → fieldsOf (d ∷ s) ≡ take (wordLen (d ∷ s)) (d ∷ s) ∷ fieldsOf (drop (wordLen (d ∷ s)) (d ∷ s)))
-        → cond b ((c ∷ []) ∷ fieldsOf (d ∷ s)) (onto c (fieldsOf (d ∷ s)))
-        ≡ (c ∷ take (cond b 0 (suc (wordLen s))) (d ∷ s)) ∷ fieldsOf (drop (cond b 0 (suc (wordLen s))) (d ∷ s))
-    go true f r = refl
-    go false f r = rw (r f, f)
-
-blank-le : (s : List ℕ) → blankLen s ≤ length s
-unfolding blankLen
-blank-le [] = omega arith
-blank-le (c ∷ s) = go (isBlank c) (blank-le s)
-  where
-    go : (b : Bool) → blankLen s ≤ length s → cond b (suc (blankLen s)) 0 ≤ suc (length s)
-    go true h = omega arith
-    go false h = omega arith
-
-word-le : (s : List ℕ) → wordLen s ≤ length s
-unfolding wordLen
-word-le [] = omega arith
-word-le (c ∷ s) = go (isBlank c) (word-le s)
-  where
-    go : (b : Bool) → wordLen s ≤ length s → cond b 0 (suc (wordLen s)) ≤ suc (length s)
-    go true h = omega arith
-    go false h = omega arith
-
-word-some : (c : ℕ) (s : List ℕ) → isBlank c ≡ false → 1 ≤ wordLen (c ∷ s)
-unfolding wordLen
-word-some c s e = rw e (omega arith)
-
--- where the blanks end there is no blank, or nothing is left
-blank-ends : (s : List ℕ) (c : ℕ) (t : List ℕ) → drop (blankLen s) s ≡ c ∷ t → isBlank c ≡ false
-unfolding blankLen
-blank-ends [] c t e = absurd (let z : _≡_ {A = ℕ} 0 1 = cc in omega arith)
-blank-ends (d ∷ s) c t e = go (isBlank d) refl (blank-ends s c t) e
-  where
-    go : (b : Bool) → isBlank d ≡ b → (drop (blankLen s) s ≡ c ∷ t → isBlank c ≡ false) → drop (cond b (suc (blankLen s)) 0) (d ∷ s) ≡ c ∷ t → isBlank c ≡ false
-    go true f r e = r e
-    go false f r e = let g : d ≡ c = cc in rw (← g) f
-
--- the place behind the blanks
-module _ (line : List ℕ) (at : ℕ) where
-  pub skip-later : at ≤ skipped line at
-  unfolding skipped
-  skip-later = omega arith
-
-  pub skip-within : at ≤ length line → skipped line at ≤ length line
-  unfolding skipped
-  skip-within h = let l = length-drop at line in let b = blank-le (drop at line) in omega arith
-
-  pub skip-drop : drop (blankLen (drop at line)) (drop at line) ≡ drop (skipped line at) line
-  unfolding skipped
-  skip-drop = rw drop-drop
-
-  pub skip-ends : (c : ℕ) (t : List ℕ) → drop (skipped line at) line ≡ c ∷ t → isBlank c ≡ false
-  skip-ends c t e = blank-ends (drop at line) c t (skip-drop ∙ e)
-
-  pub skip-fields : fieldsOf (drop at line) ≡ fieldsOf (drop (skipped line at) line)
-  skip-fields = fields-skip (drop at line) ∙ ap fieldsOf skip-drop
-
--- the first field from a place on
-pub record FieldAt (line : List ℕ) (at : ℕ) (r : Part) : Type 0 where
-  pub later : at ≤ r .start
-  pub some : r .start < r .stop
-  pub ordered : r .start ≤ r .stop
-  pub within : r .stop ≤ length line
-  pub field : fieldsOf (drop at line) ≡ take (r .stop - r .start) (drop (r .start) line) ∷ fieldsOf (drop (r .stop) line)
-
-module _ (line : List ℕ) (at : ℕ) (r : Part) (p : r ≡ fieldAt line at) where
-  starts : r .start ≡ skipped line at
-  unfolding fieldAt
-  starts = ap (λ (x : Part). x .start) p
-
-  stops : r .stop ≡ r .start + wordLen (drop (r .start) line)
-  unfolding fieldAt
-  stops = ap (λ (x : Part). x .stop) p ∙ rw starts
-
-  pub no-field : length line ≤ r .start → fieldsOf (drop at line) ≡ []
-  unfolding fieldsOf
-  no-field h = skip-fields line at ∙ rw (← starts, drop-of-length-le line h)
-
-  pub field-at : r .start < length line → FieldAt line at r
-  field-at h = go (drop (r .start) line) refl (length-drop (r .start) line)
-    where
-      go : (s : List ℕ) → drop (r .start) line ≡ s → length s ≡ length line - r .start → FieldAt line at r
-      go [] e l = absurd (omega arith)
-      go (c ∷ s) e l =
-          let n : r .stop ≡ r .start + wordLen (c ∷ s) = stops ∙ ap (λ (x : List ℕ). r .start + wordLen x) e in
-          let f : isBlank c ≡ false = skip-ends line at c s (rw (← starts) e) in
-          let w = word-le (c ∷ s) in
-          let v = word-some c s f in
-          let u = skip-later line at in
-          let b = starts in
-          record {
-            later = omega arith;
-            some = omega arith;
-            ordered = omega arith;
-            within = omega arith;
-            field = skip-fields line at ∙ rw (← starts, e, n, add-sub-left, ← drop-drop, e) (fields-cut c s f);
-          }
-
--- ---- trimmed
-body-le : (s : List ℕ) → bodyLen s ≤ length s
-unfolding bodyLen
-body-le [] = omega arith
-body-le (c ∷ s) = go (isBlank c && eqb (bodyLen s) 0) (body-le s)
-  where
-    go : (b : Bool) → bodyLen s ≤ length s → cond b 0 (suc (bodyLen s)) ≤ suc (length s)
-    go true h = omega arith
-    go false h = omega arith
-
--- a field stops within the line, also where there is none
-pub field-inside : (line : List ℕ) (at : ℕ) (r : Part) → r ≡ fieldAt line at → at ≤ length line → r .stop ≤ length line
-unfolding fieldAt skipped
-field-inside line at r p h =
-    let e : r .stop ≡ at + blankLen (drop at line) + wordLen (drop (at + blankLen (drop at line)) line) = ap (λ (x : Part). x .stop) p in
-    let b = blank-le (drop at line) in
-    let l = length-drop at line in
-    let w = word-le (drop (at + blankLen (drop at line)) line) in
-    let m = length-drop (at + blankLen (drop at line)) line in
-    omega arith
-
--- what stands from a place on, trimmed
-pub record TrimAt (line : List ℕ) (at : ℕ) (r : Part) : Type 0 where
-  pub later : at ≤ r .start
-  pub ordered : r .start ≤ r .stop
-  pub within : at ≤ length line → r .stop ≤ length line
-  pub text : take (r .stop - r .start) (drop (r .start) line) ≡ trimmed (drop at line)
-
-pub trim-at : (line : List ℕ) (at : ℕ) (r : Part) → r ≡ trimmedAt line at → TrimAt line at r
-unfolding trimmedAt trimmed
-trim-at line at r p =
-    let b : r .start ≡ skipped line at = ap (λ (x : Part). x .start) p in
-    let e : r .stop ≡ skipped line at + bodyLen (drop (skipped line at) line) = ap (λ (x : Part). x .stop) p in
-    let u = skip-later line at in
-    let l = length-drop (skipped line at) line in
-    let w = body-le (drop (skipped line at) line) in
-    record {
-      later = omega arith;
-      ordered = omega arith;
-      within = λ (h : at ≤ length line). omega (arith, skip-within line at h);
-      text = rw (e, b, add-sub-left, skip-drop line at);
-    }

@@ -39,19 +39,3 @@ module _ (rest : List ℕ) where
 
   pub lines-line : {line : List ℕ} → OneLine line → linesOf (line ++ 10 ∷ rest) ≡ line ∷ linesOf rest
   lines-line {line} o = line-from line (o .whole) (o .bare)
-
--- ---- of a text put together
-pub feed-append : (s t : List ℕ) → hasFeed (s ++ t) ≡ hasFeed s || hasFeed t
-unfolding hasFeed
-feed-append [] t = refl
-feed-append (c ∷ s) t = step (eqb c 10) (feed-append s t)
-  where
-    step : (b : Bool) → hasFeed (s ++ t) ≡ hasFeed s || hasFeed t → b || hasFeed (s ++ t) ≡ (b || hasFeed s) || hasFeed t
-    step true e = refl
-    step false e = e
-
-pub return-append : (s : List ℕ) (c : ℕ) (t : List ℕ) → endsReturn (s ++ c ∷ t) ≡ endsReturn (c ∷ t)
-unfolding endsReturn
-return-append [] c t = refl
-return-append (a ∷ []) c t = refl
-return-append (a ∷ b ∷ s) c t = return-append (b ∷ s) c t

@@ -7,10 +7,10 @@ use borrow.Author.Tests.{eq-eqb, ne-eqb, lt-ltb, le-ltb}
 use lib.ListN.{length, getD, drop, drop-of-length-le}
 use lib.Seq.{drop-cons}
 use Rattle.text.specs.Marks.{isBlank, markOf, isComment, anyControl, breaksLine}
-use Rattle.text.specs.Fields.{blankLen, skipped}
+use Rattle.text.specs.Blanks.{blankLen, skipped}
 use Rattle.text.specs.declared.Mark.{Mark}
 use Rattle.text.specs.declared.Mark.the-variants.{Blank, Comment, Section, Plain}
-use Rattle.text.proofs.Cut.{skip-drop, skip-ends}
+use Rattle.text.proofs.Blanks.{skip-drop, skip-ends}
 
 mark-skip : (s : List ℕ) → markOf s ≡ markOf (drop (blankLen s) s)
 unfolding markOf blankLen

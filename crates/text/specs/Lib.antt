@@ -1,6 +1,5 @@
 -- What must be believed of texts, in the paper's order.
 pub mod Lines
 pub mod Marks
-pub mod Fields
+pub mod Blanks
 pub mod Words
-pub mod Over

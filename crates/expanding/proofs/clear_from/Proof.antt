@@ -3,7 +3,7 @@ use Prim.Native.Nat.{_-_}
 use lib.ListN.{length}
 use lib.IntN.{pos}
 use native.Mathlib.Omega.{arith}
-use Rattle.text.proofs.Clear.{Clearing, clear-start, clear-turn, clear-end}
+use Rattle.output.proofs.Clear.{Clearing, clear-start, clear-turn, clear-end}
 use borrow.Author.Needs.{needs}
 use Rattle.expanding.proofs.clear_from.Statement.{statement}
 use Rattle.expanding.proofs.clear_from.Tie as tie

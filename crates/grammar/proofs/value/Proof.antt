@@ -2,7 +2,7 @@
 use mathlib.Core.Path.{_∙_}
 use native.Mathlib.Omega.{arith}
 use denote.Ref.{now}
-use Rattle.text.proofs.Cut.{TrimAt, trim-at, field-inside}
+use Rattle.fields.proofs.Cut.{TrimAt, trim-at, field-inside}
 use Rattle.grammar.specs.Definitions.{valueOf}
 use borrow.Author.Needs.{needs}
 use Rattle.grammar.proofs.value.Statement.{statement}

@@ -1,7 +1,7 @@
 -- `heads::label_place` meets its contract: the fields of the text are the list, which computes. Assumes nothing.
 use Rattle.text.specs.Lines.{onto}
 use Rattle.text.specs.Marks.{isBlank}
-use Rattle.text.specs.Fields.{endsField, fieldsOf}
+use Rattle.fields.specs.Fields.{endsField, fieldsOf}
 use Rattle.heads.specs.Heads.{labelNames}
 use borrow.Author.Needs.{needs}
 use Rattle.heads.proofs.label_place.Statement.{statement}

@@ -2,7 +2,7 @@
 use mathlib.Core.Path.{_≡_, sym, _∙_}
 use denote.Ref.{now}
 use lib.ListN.{length}
-use Rattle.text.specs.Fields.{fieldsOf}
+use Rattle.fields.specs.Fields.{fieldsOf}
 use Rattle.heads.proofs.Forms.{extension-three, extension-other}
 use borrow.Author.Needs.{needs}
 use Rattle.heads.proofs.read_extension.Statement.{statement}

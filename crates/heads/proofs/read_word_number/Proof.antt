@@ -3,7 +3,7 @@ use mathlib.Core.Path.{_≡_, sym, _∙_}
 use denote.Ref.{now}
 use borrow.Author.Tests.{not-true, not-false}
 use lib.ListN.{length}
-use Rattle.text.specs.Fields.{fieldsOf}
+use Rattle.fields.specs.Fields.{fieldsOf}
 use Rattle.heads.proofs.Forms.{number-read, number-other-word, number-other}
 use borrow.Author.Needs.{needs}
 use Rattle.heads.proofs.read_word_number.Statement.{statement}

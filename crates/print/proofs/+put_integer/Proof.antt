@@ -8,7 +8,7 @@ use borrow.Fn.PlainCycle.{Measures, is, falls, and}
 use Rattle.print.proofs.put_integer.Reads as put-integer
 use Rattle.print.proofs.put_integer.Kinds as put-integer-kinds
 use Rattle.print.proofs.+put_integer.Lts-put_integer as put-integer-lts
-use Rattle.text.proofs.put_byte.Reads as put-byte-reads
+use Rattle.output.proofs.put_byte.Reads as put-byte-reads
 use Rattle.print.proofs.+put_integer.{statement}
 use Rattle.print.proofs.+put_integer.Tie.{close}
 

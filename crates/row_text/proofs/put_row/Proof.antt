@@ -5,7 +5,7 @@ use native.Mathlib.Omega.{arith}
 use denote.Ref.{now}
 use borrow.Author.Needs.{needs}
 use lib.ListN.{length}
-use Rattle.text.proofs.Over.{put-length}
+use Rattle.output.proofs.Over.{put-length}
 use Rattle.columns.specs.Columns.{columnsOf}
 use Rattle.columns.proofs.Columns.{columns-few}
 use Rattle.row_text.proofs.Writing.{Columns, columns-start, columns-turn, columns-all, width-small}

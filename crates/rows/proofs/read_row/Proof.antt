@@ -5,7 +5,7 @@ use mathlib.Core.Path.{_≡_, sym, _∙_, ap}
 use native.Mathlib.Omega.{arith}
 use denote.Ref.{now}
 use lib.ListN.{getD, length, set}
-use Rattle.text.proofs.Cut.{field-at, no-field}
+use Rattle.fields.proofs.Cut.{field-at, no-field}
 use Rattle.signed.proofs.Machine.{rd-at}
 use Rattle.columns.specs.Columns.{columnsOf}
 use Rattle.columns.specs.Rows.{blank}

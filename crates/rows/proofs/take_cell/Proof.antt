@@ -4,8 +4,8 @@ use lib.ListN.{length, drop, take}
 use mathlib.Core.List.{List, _∷_}
 use mathlib.Core.Path.{_≡_, sym, _∙_}
 use denote.Ref.{now}
-use Rattle.text.specs.Fields.{fieldsOf}
-use Rattle.text.proofs.Cut.{FieldAt, field-at, no-field}
+use Rattle.fields.specs.Fields.{fieldsOf}
+use Rattle.fields.proofs.Cut.{FieldAt, field-at, no-field}
 use Rattle.signed.proofs.Machine.{rd-at}
 use Rattle.rows.specs.Cells.{cellOf, with, rowFrom}
 use Rattle.columns.specs.declared.Kind.{Kind}

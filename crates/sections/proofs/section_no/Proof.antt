@@ -3,8 +3,8 @@ use native.Mathlib.Omega.{arith}
 use denote.Ref.{now}
 use Rattle.text.specs.Lines.{onto}
 use Rattle.text.specs.Marks.{isBlank}
-use Rattle.text.specs.Fields.{endsField, fieldsOf}
-use Rattle.text.proofs.Cut.{TrimAt, trim-at}
+use Rattle.fields.specs.Fields.{endsField, fieldsOf}
+use Rattle.fields.proofs.Cut.{TrimAt, trim-at}
 use Rattle.sections.specs.Sections.{sectionNames, sectionNo}
 use Rattle.sections.proofs.Sections.{section-is}
 use borrow.Author.Needs.{needs}

@@ -2,7 +2,7 @@
 use mathlib.Core.Path.{_≡_, sym, _∙_}
 use denote.Ref.{now}
 use lib.ListN.{length}
-use Rattle.text.specs.Fields.{fieldsOf}
+use Rattle.fields.specs.Fields.{fieldsOf}
 use Rattle.shape.specs.Stored.{numberItem}
 use Rattle.shape.proofs.Items.{item-other, item-one}
 use borrow.Author.Needs.{needs}

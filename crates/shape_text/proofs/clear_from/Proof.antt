@@ -2,7 +2,7 @@
 use Prim.Native.Nat.{_-_}
 use native.Mathlib.Omega.{arith}
 use lib.ListN.{length}
-use Rattle.text.proofs.Clear.{Clearing, clear-start, clear-turn, clear-end}
+use Rattle.output.proofs.Clear.{Clearing, clear-start, clear-turn, clear-end}
 use borrow.Author.Needs.{needs}
 use Rattle.shape_text.proofs.clear_from.Statement.{statement}
 use Rattle.shape_text.proofs.clear_from.Tie as tie

@@ -1,6 +1,6 @@
 -- `shapes::number_at` is safe and ends: a field that starts in the line lies in it. Assumes nothing.
 use native.Mathlib.Omega.{arith}
-use Rattle.text.proofs.Cut.{field-at}
+use Rattle.fields.proofs.Cut.{field-at}
 use borrow.Author.Needs.{needs}
 use Rattle.shapes.proofs.number_at.Statement.{statement}
 use Rattle.shapes.proofs.number_at.Tie as tie

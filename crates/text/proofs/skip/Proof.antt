@@ -6,7 +6,7 @@ use denote.Ref.{now}
 use borrow.Author.Tests.{not-true, not-false}
 use borrow.Author.Needs.{needs}
 use lib.ListN.{length}
-use Rattle.text.specs.Fields.{skipped}
+use Rattle.text.specs.Blanks.{skipped}
 use Rattle.text.proofs.Places.{skip-none, skip-stop, skip-more}
 use Rattle.text.proofs.skip.Statement.{statement}
 use Rattle.text.proofs.skip.Tie as tie

@@ -1,4 +1,4 @@
--- `text::put_byte` meets its contract. Where the branches meet the output is `set`, since `set` past the end changes nothing; the place stops at 2^64 - 1. Assumes nothing.
+-- `output::put_byte` meets its contract. Where the branches meet the output is `set`, since `set` past the end changes nothing; the place stops at 2^64 - 1. Assumes nothing.
 use mathlib.Core.Logic.{⊎-elim}
 use mathlib.Core.Path.{_≡_, sym, ap, _∙_}
 use native.Mathlib.Omega.{arith}
@@ -6,9 +6,9 @@ use denote.Ref.{now}
 use borrow.Author.Needs.{needs}
 use lib.ListN.{length, set, length-set}
 use lib.Seq.{set-out}
-use Rattle.text.proofs.Over.{put-one}
-use Rattle.text.proofs.put_byte.Statement.{statement}
-use Rattle.text.proofs.put_byte.Tie as tie
+use Rattle.output.proofs.Over.{put-one}
+use Rattle.output.proofs.put_byte.Statement.{statement}
+use Rattle.output.proofs.put_byte.Tie as tie
 
 -- what the output is where the branches meet
 met : (c : tie.Joined1) → c .if1 .out ≡ set (now (c .before .args .out)) (c .before .args .at) (c .before .args .b)

@@ -1,4 +1,4 @@
--- `text::trim` meets its contract. The loop's invariant: with what is left from i on, the text ends where that from `start` on does. Assumes nothing.
+-- `fields::trim` meets its contract. The loop's invariant: with what is left from i on, the text ends where that from `start` on does. Assumes nothing.
 use Prim.Native.Nat.{_-_}
 use mathlib.Core.Logic.{⊎-elim}
 use mathlib.Core.Path.{_≡_, refl, sym, _∙_}
@@ -7,9 +7,9 @@ use denote.Ref.{now}
 use borrow.Author.Tests.{not-true, not-false}
 use borrow.Author.Needs.{needs}
 use lib.ListN.{length}
-use Rattle.text.proofs.Places.{bodyEnd, body-end, body-byte, body-blank, trim-is}
-use Rattle.text.proofs.trim.Statement.{statement}
-use Rattle.text.proofs.trim.Tie as tie
+use Rattle.fields.proofs.Places.{bodyEnd, body-end, body-byte, body-blank, trim-is}
+use Rattle.fields.proofs.trim.Statement.{statement}
+use Rattle.fields.proofs.trim.Tie as tie
 
 abbrev Inv-loop : tie.InvT-loop
 Inv-loop line at start stop₀ i₀ stop i = bodyEnd line stop i ≡ bodyEnd line start start

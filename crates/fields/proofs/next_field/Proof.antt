@@ -1,13 +1,13 @@
--- `text::next_field` meets its contract. The loop's invariant: the word at `stop` ends where that at `start` does. Assumes nothing.
+-- `fields::next_field` meets its contract. The loop's invariant: the word at `stop` ends where that at `start` does. Assumes nothing.
 use Prim.Native.Nat.{_-_}
 use mathlib.Core.Path.{_≡_, refl, sym, _∙_}
 use native.Mathlib.Omega.{arith}
 use denote.Ref.{now}
 use borrow.Author.Needs.{needs}
 use lib.ListN.{length}
-use Rattle.text.proofs.Places.{wordEnd, word-none, word-stop, word-more, field-is}
-use Rattle.text.proofs.next_field.Statement.{statement}
-use Rattle.text.proofs.next_field.Tie as tie
+use Rattle.fields.proofs.Places.{wordEnd, word-none, word-stop, word-more, field-is}
+use Rattle.fields.proofs.next_field.Statement.{statement}
+use Rattle.fields.proofs.next_field.Tie as tie
 
 abbrev Inv-loop : tie.InvT-loop
 Inv-loop line at start stop₀ stop = wordEnd line stop ≡ wordEnd line start

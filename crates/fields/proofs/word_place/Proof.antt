@@ -1,4 +1,4 @@
--- `text::word_place` meets its contract. The loop's invariant: the word's place among the fields left, counted on, is its place among all. Assumes
+-- `fields::word_place` meets its contract. The loop's invariant: the word's place among the fields left, counted on, is its place among all. Assumes
 -- nothing.
 use Prim.Native.Nat.{ℕ, _+_, _-_, _≤_}
 use mathlib.Core.Bool.{true, false}
@@ -8,13 +8,13 @@ use native.Mathlib.Numerals.{add-one}
 use native.Mathlib.Omega.{arith}
 use denote.Ref.{now}
 use lib.ListN.{length, take, drop}
-use Rattle.text.specs.Fields.{fieldsOf, fieldAt}
+use Rattle.fields.specs.Fields.{fieldsOf, fieldAt}
 use Rattle.text.specs.Words.{sameBytes, placeFrom, placeOf}
-use Rattle.text.specs.declared.Part.{Part}
-use Rattle.text.proofs.Cut.{FieldAt, field-at, no-field}
+use Rattle.fields.specs.declared.Part.{Part}
+use Rattle.fields.proofs.Cut.{FieldAt, field-at, no-field}
 use borrow.Author.Needs.{needs}
-use Rattle.text.proofs.word_place.Statement.{statement}
-use Rattle.text.proofs.word_place.Tie as tie
+use Rattle.fields.proofs.word_place.Statement.{statement}
+use Rattle.fields.proofs.word_place.Tie as tie
 
 -- where the loop stands: n words are passed, and the word's place among the rest is its place among all
 record Seeking (words word : List ℕ) (at n : ℕ) : Type 0 where

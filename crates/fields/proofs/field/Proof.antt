@@ -1,16 +1,16 @@
--- `text::field` meets its contract. The loop's invariant: the field still to find among those left is the k-th of all. Assumes nothing.
+-- `fields::field` meets its contract. The loop's invariant: the field still to find among those left is the k-th of all. Assumes nothing.
 use Prim.Native.Nat.{ℕ, suc, _-_, _≤_}
 use mathlib.Core.List.{List, []}
 use mathlib.Core.Path.{_≡_, refl, sym, ap, _∙_}
 use native.Mathlib.Omega.{arith}
 use denote.Ref.{now}
 use lib.ListN.{length, getD, take, drop}
-use Rattle.text.specs.Fields.{fieldsOf, fieldAt}
-use Rattle.text.specs.declared.Part.{Part}
-use Rattle.text.proofs.Cut.{FieldAt, field-at, no-field}
+use Rattle.fields.specs.Fields.{fieldsOf, fieldAt}
+use Rattle.fields.specs.declared.Part.{Part}
+use Rattle.fields.proofs.Cut.{FieldAt, field-at, no-field}
 use borrow.Author.Needs.{needs}
-use Rattle.text.proofs.field.Statement.{statement}
-use Rattle.text.proofs.field.Tie as tie
+use Rattle.fields.proofs.field.Statement.{statement}
+use Rattle.fields.proofs.field.Tie as tie
 
 -- where the loop stands: so many fields are left to pass
 record Seeking (line : List ℕ) (k at left : ℕ) : Type 0 where

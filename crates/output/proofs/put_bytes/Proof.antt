@@ -1,13 +1,13 @@
--- `text::put_bytes` meets its contract. The loop's invariant: the first i bytes were laid over the output. Assumes nothing.
+-- `output::put_bytes` meets its contract. The loop's invariant: the first i bytes were laid over the output. Assumes nothing.
 use Prim.Native.Nat.{_-_}
 use native.Mathlib.Omega.{arith}
 use denote.Ref.{now}
 use borrow.Author.Needs.{needs}
 use lib.ListN.{length, take}
-use Rattle.text.specs.Over.{Put}
-use Rattle.text.proofs.Over.{put-none, put-more, put-all, put-length}
-use Rattle.text.proofs.put_bytes.Statement.{statement}
-use Rattle.text.proofs.put_bytes.Tie as tie
+use Rattle.output.specs.Over.{Put}
+use Rattle.output.proofs.Over.{put-none, put-more, put-all, put-length}
+use Rattle.output.proofs.put_bytes.Statement.{statement}
+use Rattle.output.proofs.put_bytes.Tie as tie
 
 abbrev Inv-loop : tie.InvT-loop
 Inv-loop out₀ at bytes place₀ i₀ out place i = Put out₀ at (take i bytes) place out

@@ -5,10 +5,10 @@ use mathlib.Core.List.{List, [], _∷_, _++_, append-nil}
 use mathlib.Core.Path.{_≡_, refl, sym, ap, _∙_}
 use lib.Dec.{leb}
 use lib.ListN.{length}
 use Rattle.text.specs.Lines.{onto}
 use Rattle.text.specs.Marks.{isBlank}
-use Rattle.text.specs.Fields.{endsField, fieldsOf, spaced, joined}
+use Rattle.fields.specs.Fields.{endsField, fieldsOf, spaced, joined}
 use Rattle.text.proofs.Lines.{or-left, or-right}
 
 unfoldable pub hasBlank : List ℕ → Bool
 hasBlank [] = false

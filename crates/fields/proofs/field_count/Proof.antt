@@ -1,16 +1,16 @@
--- `text::field_count` meets its contract. The loop's invariant: the fields passed and those left are all of them. Assumes nothing.
+-- `fields::field_count` meets its contract. The loop's invariant: the fields passed and those left are all of them. Assumes nothing.
 use Prim.Native.Nat.{ℕ, _+_, _-_, _≤_}
 use mathlib.Core.List.{List}
 use mathlib.Core.Path.{_≡_, ap}
 use native.Mathlib.Omega.{arith}
 use denote.Ref.{now}
 use lib.ListN.{length, drop}
-use Rattle.text.specs.Fields.{fieldsOf, fieldAt}
-use Rattle.text.specs.declared.Part.{Part}
-use Rattle.text.proofs.Cut.{FieldAt, field-at, no-field}
+use Rattle.fields.specs.Fields.{fieldsOf, fieldAt}
+use Rattle.fields.specs.declared.Part.{Part}
+use Rattle.fields.proofs.Cut.{FieldAt, field-at, no-field}
 use borrow.Author.Needs.{needs}
-use Rattle.text.proofs.field_count.Statement.{statement}
-use Rattle.text.proofs.field_count.Tie as tie
+use Rattle.fields.proofs.field_count.Statement.{statement}
+use Rattle.fields.proofs.field_count.Tie as tie
 
 -- where the loop stands: n fields are passed
 record Counting (line : List ℕ) (at n : ℕ) : Type 0 where

@@ -10,7 +10,7 @@ use borrow.Author.Tests.{leb-true, leb-false}
 use lib.Dec.{leb}
 use lib.ListN.{length, getD, take, drop, set, length-set, length-append}
 use lib.Seq.{sets, sets-eq, set-out, take-append-seam, take-suc, take-all}
-use Rattle.text.specs.Over.{over, farthest, Put}
+use Rattle.output.specs.Over.{over, farthest, Put}
 
 -- ---- over
 pub over-one : (l : List ℕ) (at b : ℕ) → over l at (b ∷ []) ≡ set l at b

@@ -1,10 +1,10 @@
--- `text::front` meets its contract: past the end, all is taken. Assumes nothing.
+-- `output::front` meets its contract: past the end, all is taken. Assumes nothing.
 use mathlib.Core.Path.{sym}
 use native.Mathlib.Omega.{arith}
 use lib.Seq.{length-take-le, take-all}
 use borrow.Author.Needs.{needs}
-use Rattle.text.proofs.front.Statement.{statement}
-use Rattle.text.proofs.front.Tie as tie
+use Rattle.output.proofs.front.Statement.{statement}
+use Rattle.output.proofs.front.Tie as tie
 
 slice-aggregate-result : tie.Need-slice-aggregate-result
 slice-aggregate-result c = sym (length-take-le _ _ (omega arith))

@@ -7,7 +7,7 @@ use native.Mathlib.Numerals.{add-one}
 use native.Mathlib.Omega.{arith}
 use lib.ListN.{length, take, set, replicate, length-set}
 use lib.Seq.{take-all, take-suc-set}
-use Rattle.text.specs.Over.{clearedFrom}
+use Rattle.output.specs.Over.{clearedFrom}
 
 module _ {A : Type 0} (z : A) where
   pub record Clearing (l₀ : List A) (from : ℕ) (l : List A) (i : ℕ) : Type 0 where

@@ -7,10 +7,10 @@ use native.Mathlib.Omega.{arith}
 use borrow.Author.Tests.{ne-eqb, le-leb, lt-leb, leb-true}
 use lib.Dec.{eqb, leb}
 use lib.ListN.{length}
 use Rattle.text.specs.Marks.{isBlank, isControl, anyControl}
 use Rattle.text.proofs.Cases.{and-both}
 use Rattle.text.proofs.Lines.{hasFeed, endsReturn, OneLine}
-use Rattle.text.proofs.Fields.{hasBlank, Word}
+use Rattle.fields.proofs.Fields.{hasBlank, Word}
 
 -- from '!' to '~'
 unfoldable pub isVisible : ℕ → Bool

@@ -4,9 +4,10 @@ use mathlib.Core.Bool.{Bool, true, cond, _&&_}
 use mathlib.Core.List.{List, [], _∷_, _++_}
 use lib.Dec.{eqb}
 use lib.ListN.{drop, take}
 use Rattle.text.specs.Lines.{onto}
 use Rattle.text.specs.Marks.{isBlank}
-use Rattle.text.specs.declared.Part.{Part}
+use Rattle.text.specs.Blanks.{blankLen, skipped}
+use Rattle.fields.specs.declared.Part.{Part}
 
 -- ---- Fields
 -- no field goes on here
@@ -29,11 +30,6 @@ joined [] = []
 joined (w ∷ ws) = w ++ spaced ws
 
 -- ---- "trimmed"
--- how many blanks stand in front
-unfoldable pub blankLen : List ℕ → ℕ
-blankLen [] = 0
-blankLen (c ∷ s) = cond (isBlank c) (suc (blankLen s)) 0
-
 -- how long a text is without the blanks at its end
 unfoldable pub bodyLen : List ℕ → ℕ
 bodyLen [] = 0
@@ -47,10 +43,6 @@ trimmed s = take (bodyLen (drop (blankLen s) s)) (drop (blankLen s) s)
 unfoldable pub wordLen : List ℕ → ℕ
 wordLen [] = 0
 wordLen (c ∷ s) = cond (isBlank c) 0 (suc (wordLen s))
-
--- the first place from `at` on that is not blank
-unfoldable pub skipped : List ℕ → ℕ → ℕ
-skipped line at = at + blankLen (drop at line)
 
 -- the first field from `at` on; empty where there is none
 unfoldable pub fieldAt : List ℕ → ℕ → Part

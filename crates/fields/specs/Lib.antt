@@ -1,0 +1,2 @@
+-- What must be believed of fields.
+pub mod Fields

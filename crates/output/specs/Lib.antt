@@ -1,0 +1,2 @@
+-- What must be believed of a lent output.
+pub mod Over
