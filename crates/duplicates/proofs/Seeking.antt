@@ -56,7 +56,7 @@ module _ {A : Type 0} {pick : ℕ → List ℕ → Stepped → List A} {again : 
 
     pub again-turn : isFault (s .found) ≡ false → (next : ℕ)
         → earlier next (again (gathered pick (s .next) (n + 1) (linesOf (drop (r .next) file))))
-            ≡ again (pick n (take (r .stop - at) (drop at file)) s ++ gathered pick (s .next) (n + 1) (linesOf (drop (r .next) file)))
+        ≡ again (pick n (take (r .stop - at) (drop at file)) s ++ gathered pick (s .next) (n + 1) (linesOf (drop (r .next) file)))
         → (first′ : ℕ) → first′ ≡ earlier first next → AgainWalk pick again file a (s .next) (r .next) (n + 1) first′
     again-turn e next q first′ f =
         record {

@@ -2,3 +2,4 @@
 pub mod Having
 pub mod Twice
 pub mod Laid
+pub mod Examples

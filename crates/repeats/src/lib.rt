@@ -25,14 +25,7 @@ fn gives_row(did: Stepped, class: i64, id: i64) -> bool
 }
 
 // The line of the first row from a place on that is of the class and has the ID; 0 if none is.
-fn line_having(
-    file: &[u8],
-    from: usize,
-    state: State,
-    number: usize,
-    class: i64,
-    id: i64,
-) -> usize
+fn line_having(file: &[u8], from: usize, state: State, number: usize, class: i64, id: i64) -> usize
     requires { ⌜ number ≤ from + 1 ⌝ }
     ensures { λ r. ⌜ r ≡ nextRow class id (rowsFrom state number (linesOf (drop from (now (file .entry))))) ⌝ }
 {
@@ -105,5 +98,7 @@ pub fn row_again(file: &[u8]) -> usize
 pub fn duplicate_line(file: &[u8]) -> usize
     ensures { λ r. ⌜ r ≡ duplicateOf (now (file .entry)) ⌝ }
 {
-    duplicates::earlier(row_again(file), duplicates::word_again(file))
+    let row = row_again(file);
+    let word = duplicates::word_again(file);
+    duplicates::earlier(row, word)
 }

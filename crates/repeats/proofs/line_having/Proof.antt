@@ -1,10 +1,9 @@
-use Prim.Native.Nat.{ℕ}
-use mathlib.Core.Path.{_≡_}
+-- `repeats::line_having` meets its contract. The loop seeks the row among those of the lines that are left (`SeekWalk`). Assumes nothing.
+use Prim.Native.Nat.{ℕ, _-_}
+use mathlib.Core.Path.{_≡_, refl, sym, _∙_}
 use mathlib.Core.List.{List}
-use Rattle.file.specs.Rows.{Placed}
-use Prim.Native.Nat.{_-_}
-use mathlib.Core.Path.{refl, sym, _∙_}
 use native.Mathlib.Omega.{arith}
+use borrow.Author.Needs.{needs}
 use mir.Syntax.{w64}
 use mir.Val.{toZ}
 use denote.Ref.{now}
@@ -12,19 +11,12 @@ use lib.ListN.{length, drop}
 use Rattle.text.specs.Lines.{linesOf}
 use Rattle.text.proofs.Cut.{LineAt, line-at}
 use Rattle.signed.proofs.Machine.{rd-is, rd}
-use Rattle.file.specs.Rows.{rowAt, rowsFrom}
+use Rattle.file.specs.Rows.{Placed, rowAt, rowsFrom}
 use Rattle.duplicates.proofs.Seeking.{SeekWalk, seek-fault, seek-hit, seek-turn, seek-end}
 use Rattle.repeats.specs.Repeats.{nextRow}
 use Rattle.repeats.proofs.Having.{having-hit, having-miss, no-next}
-use borrow.Author.Needs.{needs}
 use Rattle.repeats.proofs.line_having.Statement.{statement}
 use Rattle.repeats.proofs.line_having.Tie as tie
-use Rattle.repeats.proofs.line_having.Reads as reads
-use Rattle.repeats.proofs.line_having.Lts as lts
-use Rattle.file.proofs.is_fault.Reads as is-fault-reads
-use Rattle.grammar.proofs.step.Reads as step-reads
-use Rattle.repeats.proofs.gives_row.Reads as gives-row-reads
-use Rattle.text.proofs.next_line.Reads as next-line-reads
 
 abbrev Inv-loop : tie.InvT-loop
 Inv-loop file from number class id st₀ at₀ n₀ st at n = SeekWalk rowAt (nextRow (toZ w64 class) (toZ w64 id)) file (nextRow (toZ w64 class) (toZ w64 id) (rowsFrom st₀ n₀ (linesOf (drop at₀ file)))) st at n
@@ -40,45 +32,35 @@ here c = line-at _ _ _ (c .next-line .ensures) (omega arith)
 handed : (c : tie.Start Inv-loop μ-loop) (rs : List Placed) (k : ℕ) → k ≡ nextRow (rd (c .args .class)) (rd (c .args .id)) rs → k ≡ nextRow (c .args .class) (c .args .id) rs
 handed c rs k e = rw (rd-is (c .fits .class), rd-is (c .fits .id)) at e
 
--- src/lib.rt:42:5
 loop-holds : tie.Need-loop-holds Inv-loop μ-loop
 loop-holds c = record { number = c .before .pre; same = refl }
 
--- src/lib.rt:43:13
 next-line-requires : tie.Need-next-line-requires Inv-loop μ-loop
 next-line-requires c κs = search needs
 
--- src/lib.rt:45:40
 sub-step : tie.Need-sub-step Inv-loop μ-loop
 sub-step c = here c .ordered
 
--- src/lib.rt:45:40
 part-step-start : tie.Need-part-step-start Inv-loop μ-loop
 part-step-start c = here c .ordered
 
--- src/lib.rt:45:40
 part-step-end : tie.Need-part-step-end Inv-loop μ-loop
 part-step-end c = here c .within
 
--- src/lib.rt:45:13
 step-requires : tie.Need-step-requires Inv-loop μ-loop
 step-requires c κs = search needs
 
--- src/lib.rt:47:12
 is-fault-requires : tie.Need-is-fault-requires Inv-loop μ-loop
 is-fault-requires c κs = search needs
 
--- src/lib.rt:48:13
 returns : tie.Need-returns Inv-loop μ-loop
 returns c = let s = c .before .before in
     let l = s .before .before in
     handed (l .before .before .before .before) _ _ (seek-fault (l .before .before .loop .inv) _ (here l) _ (s .step .ensures) (no-next _ _) (sym (c .before .is-fault .ensures) ∙ c .if1 .taken))
 
--- src/lib.rt:50:12
 gives-row-requires : tie.Need-gives-row-requires Inv-loop μ-loop
 gives-row-requires c κs = search needs
 
--- src/lib.rt:51:13
 returns-2 : tie.Need-returns-2 Inv-loop μ-loop
 returns-2 c = let d = c .before in
     let e = d .before in
@@ -86,17 +68,14 @@ returns-2 c = let d = c .before in
     let l = s .before .before in
     handed (l .before .before .before .before) _ _ (seek-hit (l .before .before .loop .inv) _ (here l) _ (s .step .ensures) (sym (e .before .is-fault .ensures) ∙ e .if1 .left) _ (λ rest. having-hit _ _ _ _ _ _ (d .gives-row .ensures) rest (c .if2 .taken)))
 
--- src/lib.rt:53:9
 add-n : tie.Need-add-n Inv-loop μ-loop
 add-n c = let l = c .before .before .before .before .before .before in
     let w = l .before .before .loop .inv in
     omega (arith, w .number, here l .further, here l .inside, l .before .before .before .before .good .0 .0)
 
--- src/lib.rt:42:5
 loop-less : tie.Need-loop-less Inv-loop μ-loop
 loop-less c = let l = c .before .before .before .before .before .before .before in omega (arith, here l .further, here l .inside)
 
--- src/lib.rt:42:5
 loop-again : tie.Need-loop-again Inv-loop μ-loop
 loop-again c = let d = c .before .before in
     let e = d .before in
@@ -104,7 +83,6 @@ loop-again c = let d = c .before .before in
     let l = s .before .before in
     seek-turn (l .before .before .loop .inv) _ (here l) _ (s .step .ensures) (sym (e .before .is-fault .ensures) ∙ e .if1 .left) (λ rest. having-miss _ _ _ _ _ _ (d .gives-row .ensures) rest (c .before .if2 .left))
 
--- src/lib.rt:28:1
 returns-3 : tie.Need-returns-3 Inv-loop μ-loop
 returns-3 c = handed (c .before .before .before) _ _ (seek-end (c .before .loop .inv) (no-next _ _) (c .loop-test .left))
 

@@ -1,6 +1,8 @@
+-- `repeats::row_again` meets its contract. The loop's invariant: the first line so far, or that of the rows that are left (`AgainWalk`). Assumes nothing.
 use Prim.Native.Nat.{_-_}
 use mathlib.Core.Path.{refl, sym, _∙_}
 use native.Mathlib.Omega.{arith}
+use borrow.Author.Needs.{needs}
 use denote.Ref.{now}
 use lib.ListN.{length}
 use Rattle.text.proofs.Cut.{LineAt, line-at}
@@ -8,17 +10,8 @@ use Rattle.file.specs.Rows.{rowAt, rowsOf}
 use Rattle.duplicates.proofs.Seeking.{AgainWalk, again-start, again-fault, again-turn, again-end}
 use Rattle.repeats.specs.Repeats.{rowsAgain}
 use Rattle.repeats.proofs.Having.{again-front, no-again}
-use borrow.Author.Needs.{needs}
 use Rattle.repeats.proofs.row_again.Statement.{statement}
 use Rattle.repeats.proofs.row_again.Tie as tie
-use Rattle.repeats.proofs.row_again.Reads as reads
-use Rattle.repeats.proofs.row_again.Lts as lts
-use Rattle.duplicates.proofs.earlier.Reads as earlier-reads
-use Rattle.file.proofs.is_fault.Reads as is-fault-reads
-use Rattle.grammar.proofs.step.Reads as step-reads
-use Rattle.places.proofs.start.Reads as start-reads
-use Rattle.repeats.proofs.met_again.Reads as met-again-reads
-use Rattle.text.proofs.next_line.Reads as next-line-reads
 
 abbrev Inv-loop : tie.InvT-loop
 Inv-loop file st₀ at₀ n₀ first₀ st at n first = AgainWalk rowAt rowsAgain file (rowsAgain (rowsOf file)) st at n first
@@ -30,73 +23,58 @@ abbrev μ-loop : tie.MeasureT-loop
 here : (c : tie.After-next-line Inv-loop μ-loop) → LineAt (now (c .before .before .before .before .before .args .file)) (c .before .before .loop .at) (c .next-line .result)
 here c = line-at _ _ _ (c .next-line .ensures) (omega arith)
 
--- src/lib.rt:81:9
 start-requires : tie.Need-start-requires Inv-loop μ-loop
 start-requires c κs = search needs
 
--- src/lib.rt:85:5
 loop-holds : tie.Need-loop-holds Inv-loop μ-loop
 unfolding rowsOf
 loop-holds c = again-start _ _ _ (c .start .ensures) refl
 
--- src/lib.rt:86:13
 next-line-requires : tie.Need-next-line-requires Inv-loop μ-loop
 next-line-requires c κs = search needs
 
--- src/lib.rt:89:40
 sub-step : tie.Need-sub-step Inv-loop μ-loop
 sub-step c = here c .ordered
 
--- src/lib.rt:89:40
 part-step-start : tie.Need-part-step-start Inv-loop μ-loop
 part-step-start c = here c .ordered
 
--- src/lib.rt:89:40
 part-step-end : tie.Need-part-step-end Inv-loop μ-loop
 part-step-end c = here c .within
 
--- src/lib.rt:89:13
 step-requires : tie.Need-step-requires Inv-loop μ-loop
 step-requires c κs = search needs
 
--- src/lib.rt:91:12
 is-fault-requires : tie.Need-is-fault-requires Inv-loop μ-loop
 is-fault-requires c κs = search needs
 
--- src/lib.rt:92:13
 returns : tie.Need-returns Inv-loop μ-loop
 returns c = let s = c .before .before in
     let l = s .before .before in
     again-fault (l .before .before .loop .inv) _ (here l) _ (s .step .ensures) no-again (sym (c .before .is-fault .ensures) ∙ c .if1 .taken)
 
--- src/lib.rt:94:9
 add-n : tie.Need-add-n Inv-loop μ-loop
 add-n c = let l = c .before .before .before .before in
     let w = l .before .before .loop .inv .within in
     omega (arith, w .number, here l .further, here l .inside, l .before .before .before .before .before .good .0 .0)
 
--- src/lib.rt:95:13
 met-again-requires : tie.Need-met-again-requires Inv-loop μ-loop
 met-again-requires c κs = let l = c .before .before .before .before in
     let w = l .before .before .loop .inv .within in
     omega (arith, w .number, here l .further)
 
--- src/lib.rt:96:9
 earlier-requires : tie.Need-earlier-requires Inv-loop μ-loop
 earlier-requires c κs = search needs
 
--- src/lib.rt:85:5
 loop-less : tie.Need-loop-less Inv-loop μ-loop
 loop-less c = let l = c .before .before .before .before .before .before .before in omega (arith, here l .further, here l .inside)
 
--- src/lib.rt:85:5
 loop-again : tie.Need-loop-again Inv-loop μ-loop
 loop-again c = let e = c .before .before .before in
     let s = e .before .before in
     let l = s .before .before in
     again-turn (l .before .before .loop .inv) _ (here l) _ (s .step .ensures) (sym (e .before .is-fault .ensures) ∙ e .if1 .left) _ (again-front _ _ _ _ _ (c .before .before .met-again .ensures)) _ (c .before .earlier .ensures)
 
--- src/lib.rt:78:1
 returns-2 : tie.Need-returns-2 Inv-loop μ-loop
 returns-2 c = again-end (c .before .loop .inv) no-again (c .loop-test .left)
 
