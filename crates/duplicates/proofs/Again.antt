@@ -1,6 +1,6 @@
 -- The first line at which something is met again is exactly that. Assumes nothing.
 use Prim.Native.Nat.{ℕ, _<_, _≤_}
-use mathlib.Core.Bool.{Bool, true, false, cond, true≢false}
+use mathlib.Core.Bool.{Bool, true, cond, true≢false}
 use mathlib.Core.List.{List, [], _∷_}
 use mathlib.Core.Logic.{_⊎_, inl, inr, ⊎-elim}
 use mathlib.Core.Path.{_≡_, refl, sym, _∙_}
@@ -17,7 +17,7 @@ use Rattle.tables.specs.Tables.{firstSuch, isAgain, firstAgain}
 use Rattle.tables.proofs.Found.{first-is}
 use Rattle.duplicates.specs.declared.Sort.{Sort}
 use Rattle.duplicates.specs.declared.Sort.the-variants.{Key, Name}
-use Rattle.duplicates.specs.Words.{Word, wordsOf, sortNumber, isSame, nextLine, earlier, againLine, rowAgainLine, duplicateLine}
+use Rattle.duplicates.specs.Words.{Word, wordsOf, sortNumber, isSame, nextLine, againLine, rowAgainLine, duplicateLine}
 use Rattle.duplicates.specs.Again.{FirstLine, wordNo, WordAgain, RowAgain, Duplicate, by-row, by-word}
 use Rattle.duplicates.proofs.First.{first-either, first-as, first-none, nextSuch, againSuch, MetAgain, again-first}
 use Rattle.duplicates.proofs.Rising.{wordLine, words-rise, rows-low, rows-ordered, rows-rise}

@@ -3,16 +3,16 @@ use Prim.Native.Nat.{ℕ, _+_, _*_, _/_, _≤_, _<_}
 use mathlib.Core.Bool.{Bool, true, true≢false}
 use mathlib.Core.List.{List}
 use mathlib.Core.Logic.{⊎-elim}
-use mathlib.Core.Path.{_≡_, sym, ap, _∙_}
+use mathlib.Core.Path.{_≡_, sym, _∙_}
 use native.Mathlib.Omega.{arith}
 use borrow.Author.Tests.{lt-ltb, ltb-true}
-use lib.IntN.{ℤ, pos}
-use lib.ListN.{length, getD}
+use lib.IntN.{ℤ}
+use lib.ListN.{length}
 use Rattle.text.proofs.Cases.{and-both, lt-or-ge}
 use Rattle.signed.specs.Signed.{sameZ}
 use Rattle.signed.proofs.Sign.{sameZ-refl, sameZ-true}
 use Rattle.columns.specs.Rows.{rowWidth}
-use Rattle.tables.specs.Tables.{firstSuch, numberAt, classOf, classAt, isRowOf, firstRow, isAgain}
+use Rattle.tables.specs.Tables.{firstSuch, numberAt, classAt, isRowOf, firstRow, isAgain}
 use Rattle.tables.proofs.Found.{first-is}
 use Rattle.tables.proofs.Numbers.{number-there}
 use Rattle.file.specs.Rows.{rowsOf, laidRows}
