@@ -78,6 +78,13 @@ fn section<'a>(draft: &'a mut Draft, name: &str) -> Option<&'a mut Section> {
     draft.sections.iter_mut().find(|section| section.name == name)
 }
 
+/// Puts a field into a line that has its column.
+fn set(line: &mut Line, column: usize, field: &str) {
+    if let Some(place) = line.get_mut(column) {
+        *place = field.to_string();
+    }
+}
+
 /// Puts a field into a random row of a section.
 fn put(random: &mut Random, draft: &mut Draft, name: &str, column: usize, field: &str) {
     if let Some(section) = section(draft, name) {
@@ -95,6 +102,9 @@ fn put(random: &mut Random, draft: &mut Draft, name: &str, column: usize, field:
 
 /// A fault that is meant to end in a refusal.
 pub fn spoil(random: &mut Random, draft: &mut Draft, refusal: u64) {
+    if draft.sections.is_empty() {
+        return;
+    }
     match refusal {
         3 => spoil_version(random, draft),
         4 => spoil_sections(random, draft),
@@ -121,13 +131,13 @@ fn spoil_version(random: &mut Random, draft: &mut Draft) {
             let row = random.below(lines.len());
             let column = random.below(2);
             if let Some(line) = lines.get_mut(row) {
-                line[column] = random.pick(&VERSION_FIELDS).to_string();
+                set(line, column, random.pick(&VERSION_FIELDS));
             }
         }
         3 => lines.truncate(random.below(3)),
         4 => lines.push(words(&[random.pick(&["revision", "x"]), "1"])),
         5 => lines.iter_mut().for_each(|line| line.push("1".to_string())),
-        6 => lines.swap(0, 1),
+        6 if lines.len() > 1 => lines.swap(0, 1),
         _ => {
             draft.sections.remove(0);
         }
@@ -227,11 +237,11 @@ fn spoil_uniqueness(random: &mut Random, draft: &mut Draft) {
     if random.once_in(6) {
         let trap = section(draft, "TRAP").and_then(|section| section.lines.first().cloned());
         if let Some(line) = trap {
-            put(random, draft, "GRADIENTS", 0, &line[0]);
+            put(random, draft, "GRADIENTS", 0, line.first().map_or("1", |id| id));
         }
         return;
     }
-    let number = random.below(draft.sections.len() - 1) + 1;
+    let number = random.below(draft.sections.len());
     let lines = &mut draft.sections[number].lines;
     let from = random.below(lines.len());
     let to = random.below(lines.len());
@@ -274,7 +284,7 @@ fn spoil_rasters(random: &mut Random, draft: &mut Draft) {
             lines.retain(|line| line.first().is_none_or(|key| key != name));
         }
         let named = lines.iter_mut().filter(|line| line.first().is_some_and(|key| key == name));
-        named.for_each(|line| line[1] = value.clone());
+        named.for_each(|line| set(line, 1, &value));
     };
     if let Some(section) = section(draft, "DEFINITIONS") {
         change(&mut section.lines);
@@ -361,7 +371,8 @@ fn spoil_chains(random: &mut Random, draft: &mut Draft) {
         section.lines.splice(entries..entries, chain);
         return;
     }
-    let ids: Vec<String> = section.lines[..entries].iter().map(|line| line[0].clone()).collect();
+    let ids: Vec<String> =
+        section.lines[..entries].iter().filter_map(|line| line.first().cloned()).collect();
     for _ in 0..2 {
         let row = random.below(entries);
         if let Some(next) = section.lines[row].get_mut(3) {
@@ -411,8 +422,9 @@ fn spoil_lengths(random: &mut Random, draft: &mut Draft) {
     if draft.new && random.once_in(2) {
         put(random, draft, "BLOCKS", 1, &value);
         if let Some(section) = section(draft, "DEFINITIONS") {
-            let rasters = section.lines.iter_mut().filter(|line| line[0] == RASTERS[3]);
-            rasters.for_each(|line| line[1] = raster.clone());
+            let rasters = section.lines.iter_mut();
+            let named = rasters.filter(|line| line.first().is_some_and(|key| key == RASTERS[3]));
+            named.for_each(|line| set(line, 1, &raster));
         }
         return;
     }
