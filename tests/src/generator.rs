@@ -105,17 +105,17 @@ fn sizes(draft: &Draft) -> (usize, usize) {
 
 /// Room that is enough, just enough, one too little, none, or no multiple of 12.
 fn room(random: &mut Random, rows: usize, samples: usize) -> (usize, usize) {
-    let rows_len = match random.below(24) {
+    let rows_len = match random.below(36) {
         0 => (12 * rows).saturating_sub(1),
         1 => 12 * rows.saturating_sub(1) + random.below(12),
         2 => random.below(30),
-        3..=9 => 12 * rows + random.below(12),
+        3..=13 => 12 * rows + random.below(12),
         _ => 12 * rows + random.below(60),
     };
-    let samples_len = match random.below(24) {
+    let samples_len = match random.below(36) {
         0 => samples.saturating_sub(1),
         1 => random.below(10),
-        2..=9 => samples,
+        2..=13 => samples,
         _ => samples + random.below(30),
     };
     (rows_len, samples_len)

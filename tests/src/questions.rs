@@ -135,43 +135,45 @@ fn sample_lines(samples: &[i64], count: u64) -> String {
     samples.iter().take(count as usize).map(|sample| format!("{sample}\n")).collect()
 }
 
-/// A question from words as `read FILE SITE ROWS SAMPLES`, with files of a folder.
-pub fn question_of(words: &[&str], folder: &Path) -> Option<Question<'static>> {
-    let load = |name: &str| match name {
-        "-" => Some(Vec::new()),
-        _ => std::fs::read(folder.join(name)).ok(),
-    };
-    let edition = |word: &str| match word {
+/// The number of an edition from a word as `1.4`.
+fn edition_from(word: &str) -> Option<u64> {
+    match word {
         "1.3" => Some(103),
         "1.4" => Some(104),
         _ => word.parse().ok(),
+    }
+}
+
+/// A question from words as `read FILE SITE ROWS SAMPLES`, with files of a folder.
+pub fn question_of(words: &[&str], folder: &Path) -> Option<Question<'static>> {
+    let load = |name: &str| match name {
+        "-" => Some(Cow::Owned(Vec::new())),
+        _ => std::fs::read(folder.join(name)).ok().map(Cow::Owned),
     };
     Some(match words {
         ["read", file, site, rows, samples] => Question::Read {
-            file: load(file)?.into(),
-            site: load(site)?.into(),
+            file: load(file)?,
+            site: load(site)?,
             rows_len: 12 * rows.parse::<usize>().ok()?,
             samples_len: samples.parse().ok()?,
         },
         ["definition", file, site, key] => Question::Definition {
-            file: load(file)?.into(),
-            site: load(site)?.into(),
+            file: load(file)?,
+            site: load(site)?,
             key: key.as_bytes().to_vec(),
         },
-        ["stored", file, site, id] => Question::Stored {
-            file: load(file)?.into(),
-            site: load(site)?.into(),
-            id: id.parse().ok()?,
-        },
-        ["expand", stored, num, number, room] => Question::Expand {
-            stored: load(stored)?,
+        ["stored", file, site, id] => {
+            Question::Stored { file: load(file)?, site: load(site)?, id: id.parse().ok()? }
+        }
+        ["expand", stored, num, edition, room] => Question::Expand {
+            stored: load(stored)?.into_owned(),
             num: num.parse().ok()?,
-            edition: edition(number)?,
+            edition: edition_from(edition)?,
             samples_len: room.parse().ok()?,
         },
-        ["write", number, room, samples @ ..] => Question::Write {
+        ["write", edition, room, samples @ ..] => Question::Write {
             samples: samples.iter().map(|word| word.parse().ok()).collect::<Option<_>>()?,
-            edition: edition(number)?,
+            edition: edition_from(edition)?,
             out_len: room.parse().ok()?,
         },
         _ => return None,

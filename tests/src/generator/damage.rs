@@ -303,6 +303,9 @@ fn spoil_shapes(random: &mut Random, draft: &mut Draft) {
     if lines.is_empty() {
         return;
     }
+    if random.once_in(8) {
+        return empty_shape(random, lines);
+    }
     let row = random.below(lines.len());
     let values =
         ["0", "1", "0.5", "1e6", "1000001", "1.5", "-1", "100000", "1e5", "2e5", "-2e5", "2", "3"];
@@ -317,6 +320,16 @@ fn spoil_shapes(random: &mut Random, draft: &mut Draft) {
         (1, _) => lines[row][0] = random.pick(&values).to_string(),
         (2, _) => lines[row][1] = random.pick(&["1", "2", "3", "5", "7", "1000000"]).to_string(),
         _ => lines.insert(row, vec![random.pick(&values).to_string()]),
+    }
+}
+
+/// Takes all values of one shape away.
+fn empty_shape(random: &mut Random, lines: &mut Vec<Line>) {
+    let heads: Vec<usize> = (0..lines.len()).filter(|row| lines[*row].len() == 2).collect();
+    if !heads.is_empty() {
+        let head = random.pick(&heads);
+        let values = lines[head + 1..].iter().take_while(|line| line.len() == 1).count();
+        lines.drain(head + 1..head + 1 + values);
     }
 }
 
@@ -362,7 +375,7 @@ fn spoil_chains(random: &mut Random, draft: &mut Draft) {
     let Some(first) = section.lines[..entries].iter().find(is_entry).cloned() else {
         return;
     };
-    if random.once_in(4) {
+    if random.once_in(12) {
         let count = random.pick(&[254, 255, 256, 257, 300]);
         let chain = (0..count).map(|i| {
             let next = if i + 1 < count { 500_001 + i } else { 0 };

@@ -498,7 +498,7 @@ impl Maker<'_> {
 
     /// Entries over the rows of extensions, each chain short or, rarely, near 256.
     fn entry_lines(&mut self, objects: &[(i64, Vec<Event>)]) -> Vec<Line> {
-        let long = self.random.once_in(60);
+        let long = self.random.once_in(200);
         let count = if long { 254 + self.random.below(5) } else { self.random.below(7) };
         let ids = distinct_ids(self.random, count);
         let mut lines = Vec::new();
