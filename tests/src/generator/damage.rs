@@ -325,7 +325,8 @@ fn spoil_shapes(random: &mut Random, draft: &mut Draft) {
 
 /// Takes all values of one shape away.
 fn empty_shape(random: &mut Random, lines: &mut Vec<Line>) {
-    let heads: Vec<usize> = (0..lines.len()).filter(|row| lines[*row].len() == 2).collect();
+    let is_head = |row: &usize| lines[*row].first().is_some_and(|word| word == "num_samples");
+    let heads: Vec<usize> = (0..lines.len()).filter(is_head).collect();
     if !heads.is_empty() {
         let head = random.pick(&heads);
         let values = lines[head + 1..].iter().take_while(|line| line.len() == 1).count();
