@@ -30,7 +30,7 @@ const DOCUMENT_SITE: &str = "GradientRasterTime 1e-05\nRadiofrequencyRasterTime 
 pub fn case(seed: u64, number: u64) -> Case {
     let random = &mut Random::new(seed, number);
     if number % 25_000 == 24_999 {
-        return big_case(random);
+        return big_case(random, [0, 1, 0, 77][(number / 25_000 % 4) as usize]);
     }
     match random.below(100) {
         0 => soup_case(random),
@@ -165,13 +165,13 @@ fn noise_case(random: &mut Random) -> Case {
     Case { file, site, rows_len: length % 30, samples_len: length % 7 }
 }
 
-/// A file of 2^24 bytes or a little more, filled with comments and blank lines.
-fn big_case(random: &mut Random) -> Case {
+/// A file of 2^24 bytes and some over, filled with comments.
+fn big_case(random: &mut Random, over: usize) -> Case {
     let draft = draft::sound(random, 8);
     let (rows, samples) = sizes(&draft);
     let mut file = layout::file_text(random, &draft);
     file.extend_from_slice(b"\n#");
-    let length = (1 << 24) + random.below(3);
+    let length = (1 << 24) + over;
     let mut line = vec![b'.'; 1000];
     line.extend_from_slice(b"\n#");
     while file.len() < length {

@@ -4,7 +4,7 @@ use super::draft::{words, Draft, Line, Section, RASTERS};
 use crate::random::Random;
 
 /// Fields at borders and of wrong forms.
-const FIELDS: [&str; 62] = [
+const FIELDS: [&str; 64] = [
     "0",
     "1",
     "2",
@@ -55,6 +55,8 @@ const FIELDS: [&str; 62] = [
     "1-",
     "999999999999999999",
     "9999999999999999991",
+    "1234567890123456789",
+    "-1000000000000000001",
     "0.5",
     "0.0000000000005",
     "-0.0000000000005",
@@ -360,7 +362,7 @@ fn reference_column(random: &mut Random, draft: &Draft) -> (&'static str, usize)
 /// REFERENCE: an ID that meets no row.
 fn spoil_references(random: &mut Random, draft: &mut Draft) {
     let (name, column) = reference_column(random, draft);
-    let id = random.pick(&["1", "2", "8", "99", "2147483647", "31337", "4711"]);
+    let id = random.pick(&["0", "1", "2", "8", "99", "2147483647", "31337", "4711"]);
     put(random, draft, name, column, id);
 }
 

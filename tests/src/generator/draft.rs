@@ -66,8 +66,8 @@ struct Maker<'a> {
 fn distinct_ids(random: &mut Random, count: usize) -> Vec<i64> {
     let mut ids: Vec<i64> = match random.below(6) {
         0 => {
-            let first = random.between(1, 2_147_480_000);
-            (0..count as i64).map(|i| first.min(2_147_483_647 - count as i64) + i).collect()
+            let first = random.pick(&[1, 2, 100, 1_000_000, 2_147_483_647]);
+            (0..count as i64).map(|i| first.min(2_147_483_648 - count as i64) + i).collect()
         }
         1 => {
             let mut seen = HashSet::new();
@@ -483,6 +483,7 @@ impl Maker<'_> {
                 [self.random.between(0, 1).to_string(), flag.to_string()]
             }
             1 if set && self.new => [self.random.between(0, big).to_string(), "ONCE".to_string()],
+            2 if self.random.once_in(8) => ["-0".to_string(), "LIN".to_string()],
             _ => {
                 let name = self.random.pick(&counters);
                 [self.random.between(-big, big).to_string(), name.to_string()]
