@@ -128,7 +128,7 @@ pub fn spoil(random: &mut Random, draft: &mut Draft, refusal: u64) {
 /// VERSION: a wrong number or word, a row too many or too few, or no VERSION at all.
 fn spoil_version(random: &mut Random, draft: &mut Draft) {
     let lines = &mut draft.sections[0].lines;
-    match random.below(8) {
+    match random.below(9) {
         0..=2 => {
             let row = random.below(lines.len());
             let column = random.below(2);
@@ -140,6 +140,10 @@ fn spoil_version(random: &mut Random, draft: &mut Draft) {
         4 => lines.push(words(&[random.pick(&["revision", "x"]), "1"])),
         5 => lines.iter_mut().for_each(|line| line.push("1".to_string())),
         6 if lines.len() > 1 => lines.swap(0, 1),
+        7 => {
+            let name = random.pick(&["version", "Version", "VERSION ", "VERSIONS", "VERSION] # x"]);
+            draft.sections[0].name = name.to_string();
+        }
         _ => {
             draft.sections.remove(0);
         }
