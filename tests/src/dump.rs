@@ -2,7 +2,6 @@
 // against another reading of the paper.
 
 use crate::asked::Asked;
-use crate::paper::is_big;
 use crate::questions::{by_the_paper, text_of, Question};
 use std::io::{BufWriter, Write};
 
@@ -57,9 +56,6 @@ fn write_question(
             (format!("write {edition} {out_len}"), vec![list.join(" ").into_bytes()])
         }
     };
-    if let Question::Read { file, site, .. } = question {
-        debug_assert!(is_big(file, site) || file.len() <= 1 << 24);
-    }
     let lengths: Vec<String> = texts.iter().map(|text| text.len().to_string()).collect();
     writeln!(to, "{number} {words} | {} | {}", lengths.join(" "), answer.len())?;
     for text in &texts {
