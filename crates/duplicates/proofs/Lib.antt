@@ -1,6 +1,8 @@
 -- The laws of what is met again in a file.
 pub mod Lines
+pub mod Seeking
 pub mod Naming
 pub mod Rising
+pub mod First
 pub mod Again
 pub mod Examples

@@ -1,32 +1,22 @@
 -- Words sought line by line. Assumes nothing.
-use Prim.Native.Nat.{ℕ, _+_, _-_, _≤_}
+use Prim.Native.Nat.{ℕ}
 use mathlib.Core.Bool.{Bool, true, false, true≢false}
 use mathlib.Core.List.{List, [], _++_}
-use mathlib.Core.Path.{_≡_, refl, sym, ap, _∙_}
-use native.Mathlib.Omega.{arith}
+use mathlib.Core.Path.{_≡_, refl, sym, _∙_}
 use borrow.Author.Tests.{eq-eqb, ne-eqb}
-use lib.Dec.{eqb}
 use lib.IntN.{ℤ, pos}
-use lib.ListN.{length, take, drop, getD}
-use Rattle.text.specs.Lines.{linesOf}
+use lib.ListN.{getD}
 use Rattle.text.specs.Words.{sameBytes}
-use Rattle.text.specs.declared.Line.{Line}
-use Rattle.text.proofs.Cut.{LineAt}
 use Rattle.signed.specs.Signed.{sameZ}
-use Rattle.places.specs.Places.{fresh}
-use Rattle.grammar.specs.Steps.{stepOf}
 use Rattle.places.specs.declared.Found.{Found}
-use Rattle.places.specs.declared.State.{State}
 use Rattle.places.specs.declared.Stepped.{Stepped}
-use Rattle.file.specs.Whole.{isFault}
-use Rattle.file.proofs.Walking.{Within, within-start, within-turn, gathered-turn, gathered-stop, gathered-end}
 use Rattle.duplicates.specs.declared.Sort.{Sort}
 use Rattle.duplicates.specs.declared.Sort.the-variants.{Name}
 use Rattle.duplicates.specs.declared.Once.{Once}
 use Rattle.duplicates.specs.declared.Once.the-variants.{Nothing, Word as OnceWord}
-use Rattle.duplicates.specs.Words.{Word, rowNames, foundNames, onceOf, wordOf, wordsIn, wordAt, wordsFrom, wordsOf, sortNumber, isSame, nextLine, earlier, againLine}
+use Rattle.duplicates.specs.Words.{Word, rowNames, foundNames, onceOf, wordOf, wordsIn, wordAt, sortNumber, isSame, nextLine, earlier, againLine}
 use Rattle.duplicates.specs.Inside.{namesWord, nextOf}
-use Rattle.duplicates.proofs.Lines.{earlier-second, earlier-none, earlier-more}
+use Rattle.duplicates.proofs.Lines.{earlier-second}
 
 -- ---- what a line names
 pub names-extension : (kind : ℤ) → sameZ kind (pos 8) ≡ true → OnceWord Name ≡ rowNames kind
@@ -78,70 +68,30 @@ module _ (n : ℕ) (line : List ℕ) (rest : List Word) where
   next-miss Nothing sort word h = refl
   next-miss (OnceWord own) sort word h = rw h
 
-  again-front : (once : Once) → earlier (nextOf line once rest) (againLine rest) ≡ againLine (wordsIn n line once ++ rest)
+  front : (once : Once) → earlier (nextOf line once rest) (againLine rest) ≡ againLine (wordsIn n line once ++ rest)
   unfolding wordsIn nextOf againLine
-  again-front Nothing = sym (earlier-second 0 (againLine rest) refl)
-  again-front (OnceWord own) = refl
+  front Nothing = sym (earlier-second 0 (againLine rest) refl)
+  front (OnceWord own) = refl
 
--- ---- the loop that seeks a word from a place on
-pub record NamingWalk (file word : List ℕ) (sort : Sort) (r : ℕ) (st : State) (at n : ℕ) : Type 0 where
-  pub number : n ≤ at + 1
-  pub same : nextLine sort word (wordsFrom st n (linesOf (drop at file))) ≡ r
-
-module _ (file word : List ℕ) (sort : Sort) (a : ℕ) (st : State) (at n : ℕ) (w : NamingWalk file word sort a st at n) where
-  module _ (r : Line) (l : LineAt file at r) (s : Stepped) (p : s ≡ stepOf st n (take (r .stop - at) (drop at file))) where
-    pub naming-fault : isFault (s .found) ≡ true → 0 ≡ a
-    unfolding nextLine
-    naming-fault e = ap (nextLine sort word) (gathered-stop file at r l st n s p wordAt e) ∙ w .same
-
-    module _ (e : isFault (s .found) ≡ false) where
-      more : nextLine sort word (wordAt n (take (r .stop - at) (drop at file)) s ++ wordsFrom (s .next) (n + 1) (linesOf (drop (r .next) file))) ≡ a
-      more = ap (nextLine sort word) (gathered-turn file at r l st n s p wordAt e) ∙ w .same
-
-      module _ (b : Bool) (q : b ≡ namesWord (take (r .stop - at) (drop at file)) (onceOf s) sort word) where
-        pub naming-hit : b ≡ true → n ≡ a
-        unfolding wordAt
-        naming-hit h = next-hit n _ _ (onceOf s) sort word (sym q ∙ h) ∙ more
-
-        pub naming-turn : b ≡ false → NamingWalk file word sort a (s .next) (r .next) (n + 1)
-        unfolding wordAt
-        naming-turn h = let m = w .number in let f = l .further in record { number = omega arith; same = next-miss n _ _ (onceOf s) sort word (sym q ∙ h) ∙ more }
-
-  pub naming-end : length file ≤ at → 0 ≡ a
-  unfolding nextLine
-  naming-end h = ap (nextLine sort word) (gathered-end file at h st n wordAt) ∙ w .same
-
--- ---- the loop over all words
-pub record AgainWalk (file : List ℕ) (st : State) (at n first : ℕ) : Type 0 where
-  pub within : Within file at n
-  pub same : earlier first (againLine (wordsFrom st n (linesOf (drop at file)))) ≡ againLine (wordsOf file)
-
-pub again-start : (file : List ℕ) (st : State) → st ≡ fresh → AgainWalk file st 0 1 0
-unfolding wordsOf
-again-start file st e = record { within = within-start file; same = rw e (sym (earlier-second 0 _ refl)) }
-
-pub none-again : (first : ℕ) → first ≡ earlier first (againLine [])
-unfolding againLine
-none-again first = sym (earlier-none first)
-
-module _ (file : List ℕ) (st : State) (at n first : ℕ) (w : AgainWalk file st at n first) where
-  module _ (r : Line) (l : LineAt file at r) (s : Stepped) (p : s ≡ stepOf st n (take (r .stop - at) (drop at file))) where
-    pub again-fault : isFault (s .found) ≡ true → first ≡ againLine (wordsOf file)
-    again-fault e = none-again first ∙ ap (λ (ws : List Word). earlier first (againLine ws)) (gathered-stop file at r l st n s p wordAt e) ∙ w .same
-
-    pub again-turn : isFault (s .found) ≡ false → (next : ℕ)
-        → next ≡ nextOf (take (r .stop - at) (drop at file)) (onceOf s) (wordsFrom (s .next) (n + 1) (linesOf (drop (r .next) file)))
-        → (first′ : ℕ) → first′ ≡ earlier first next → AgainWalk file (s .next) (r .next) (n + 1) first′
+module _ (n : ℕ) (line : List ℕ) (s : Stepped) where
+  module _ (sort : Sort) (word : List ℕ) (b : Bool) (q : b ≡ namesWord line (onceOf s) sort word) (rest : List Word) where
+    pub naming-hit : b ≡ true → n ≡ nextLine sort word (wordAt n line s ++ rest)
     unfolding wordAt
-    again-turn e next q first′ f =
-        record {
-          within = within-turn (w .within) l;
-          same =
-              rw (f, q) (earlier-more first _ _)
-              ∙ ap (earlier first) (again-front n _ _ (onceOf s))
-              ∙ ap (λ (ws : List Word). earlier first (againLine ws)) (gathered-turn file at r l st n s p wordAt e)
-              ∙ w .same;
-        }
+    naming-hit h = next-hit n line rest (onceOf s) sort word (sym q ∙ h)
 
-  pub again-end : length file ≤ at → first ≡ againLine (wordsOf file)
-  again-end h = none-again first ∙ ap (λ (ws : List Word). earlier first (againLine ws)) (gathered-end file at h st n wordAt) ∙ w .same
+    pub naming-miss : b ≡ false → nextLine sort word rest ≡ nextLine sort word (wordAt n line s ++ rest)
+    unfolding wordAt
+    naming-miss h = next-miss n line rest (onceOf s) sort word (sym q ∙ h)
+
+  pub again-front : (rest : List Word) (next : ℕ) → next ≡ nextOf line (onceOf s) rest → earlier next (againLine rest) ≡ againLine (wordAt n line s ++ rest)
+  unfolding wordAt
+  again-front rest next q = rw q (front n line rest (onceOf s))
+
+-- ---- no word at all
+pub no-next : (sort : Sort) (word : List ℕ) → nextLine sort word [] ≡ 0
+unfolding nextLine
+no-next sort word = refl
+
+pub no-again : againLine [] ≡ 0
+unfolding againLine
+no-again = refl

@@ -7,7 +7,7 @@ use mathlib.Core.Path.{_≡_, refl}
 use native.Mathlib.Omega.{arith}
 use lib.Dec.{eqb}
 use lib.IntN.{ℤ}
-use lib.ListN.{length}
+use lib.ListN.{length, getD}
 use Rattle.fields.specs.Fields.{fieldsOf}
 use Rattle.text.specs.Lines.{linesOf}
 use Rattle.text.specs.Marks.{markOf, breaksLine}
@@ -51,7 +51,6 @@ use Rattle.file.specs.Rows.{Placed, rowAt, rowsFrom, rowsOf, lineOf}
 use Rattle.duplicates.specs.declared.Once.{Once}
 use Rattle.duplicates.specs.declared.Once.the-variants.{Nothing as NoWord, Word as OnceWord}
 use Rattle.duplicates.specs.Words.{Word, onceOf, wordsIn, wordAt, wordsFrom, wordsOf}
-use Rattle.duplicates.specs.Again.{wordNo}
 
 -- ---- things with lines that rise, the first at line m or behind
 pub data Rising {A : Type 0} (line : A → ℕ) : ℕ → List A → Type 0 where
@@ -62,14 +61,15 @@ rising-from : {A : Type 0} {line : A → ℕ} {m k : ℕ} {xs : List A} → k �
 rising-from h no-more = no-more
 rising-from {line = line} {k = k} h (one-more {m} {x} {xs} l r) = let y : k ≤ line x = omega arith in one-more y r
 
+-- none stands before line m
+pub rising-low : {A : Type 0} {line : A → ℕ} {m : ℕ} {xs : List A} (d : A) → Rising line m xs → (j : ℕ) → j < length xs → m ≤ line (getD xs j d)
+rising-low d no-more j h = absurd (omega arith)
+rising-low d (one-more l r) zero h = l
+rising-low {line = line} d (one-more {x = x} {xs = xs} l r) (suc j) h = let k = rising-low d r j (omega arith) in omega arith
+
 -- ---- words
 abbrev pub wordLine : Word → ℕ
 wordLine w = w .line
-
-pub words-low : {m : ℕ} {ws : List Word} → Rising wordLine m ws → (j : ℕ) → j < length ws → m ≤ wordNo ws j .line
-words-low no-more j h = absurd (omega arith)
-words-low (one-more l r) zero h = l
-words-low (one-more l r) (suc j) h = let k = words-low r j (omega arith) in omega arith
 
 words-from : (st : State) (n : ℕ) (ls : List (List ℕ)) → Rising wordLine n (wordsFrom st n ls)
 unfolding gathered wordAt wordsIn

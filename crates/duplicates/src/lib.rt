@@ -129,7 +129,7 @@ fn met_again(file: &[u8], line: &[u8], did: Stepped, from: usize, number: usize)
 }
 
 // The earlier of two lines, where 0 is none.
-fn earlier(a: usize, b: usize) -> usize
+pub fn earlier(a: usize, b: usize) -> usize
     ensures { λ r. ⌜ r ≡ earlier a b ⌝ }
 {
     if a == 0 {

@@ -19,6 +19,12 @@ pub data Twelve : List Placed → Type 0 where
   no-row : Twelve []
   one-row : {r : Placed} {rs : List Placed} → length (r .cells) ≡ 12 → Twelve rs → Twelve (r ∷ rs)
 
+pub cells-twelve : {rs : List Placed} → Twelve rs → (k : ℕ) → k < length rs → length (cellsOf rs k) ≡ 12
+unfolding cellsOf
+cells-twelve no-row k h = absurd (omega arith)
+cells-twelve (one-row w t) zero h = w
+cells-twelve (one-row w t) (suc k) h = cells-twelve t k (omega arith)
+
 -- ---- one row
 module _ (table cells : List ℤ) (k : ℕ) (w : length cells ≡ 12) (h : k < length table / 12) where
   long : length (laidRow table k cells) ≡ length table

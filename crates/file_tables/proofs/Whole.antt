@@ -1,25 +1,31 @@
 -- The tables of a file without a fault: every row is in range, and the samples of its shapes stand apart. Assumes nothing.
 use Prim.Native.Nat.{ℕ, zero, suc, _+_, _/_, _^_, _≤_, _<_}
-use mathlib.Core.Bool.{true}
-use mathlib.Core.List.{List, _∷_}
+use mathlib.Core.Bool.{true, cond}
+use mathlib.Core.List.{List, [], _∷_, _++_}
 use mathlib.Core.Logic.{inl, ⊎-elim}
-use mathlib.Core.Path.{_≡_, sym, ap, _∙_}
+use mathlib.Core.Path.{_≡_, refl, sym, ap, _∙_}
 use native.Mathlib.Omega.{arith}
 use lib.IntN.{ℤ, pos, natAbs}
 use lib.ListN.{length, getD, List·getD-eq-default}
 use lib.Seq.{length-sets}
+use Rattle.text.specs.Lines.{linesOf}
 use Rattle.text.proofs.Cases.{lt-or-ge}
 use Rattle.shape.specs.declared.Edition.{Edition}
 use Rattle.columns.specs.Rows.{blank, padded}
+use Rattle.places.specs.Places.{fresh}
+use Rattle.places.specs.declared.Found.{Found}
+use Rattle.places.specs.declared.Found.the-variants.{Nothing, Row, Definition, Fault}
 use Rattle.places.specs.declared.State.{State}
+use Rattle.grammar.specs.Steps.{stepOf}
 use Rattle.tables.specs.Tables.{numberAt}
 use Rattle.tables.proofs.Numbers.{number-beyond}
-use Rattle.file.specs.Whole.{ended, verdictOf}
-use Rattle.file.specs.Rows.{Placed, rowsOf, laidRows}
+use Rattle.file.specs.Whole.{ended, verdictOf, isFault, isRow, gathered}
+use Rattle.file.specs.Rows.{Placed, rowAt, rowsFrom, rowsOf, laidRows}
 use Rattle.sampling.specs.Sampling.{isShapeRow, numAt, placeAt, Apart}
 use Rattle.file_laws.specs.Ranges.{RowIn, by-columns, extension, label, shape, AllIn, no-rows, one-more}
 use Rattle.file_laws.specs.Stacked.{isShapeOf, shapeCount, Stacked}
 use Rattle.file_laws.specs.Stacked as stacked
+use Rattle.file_laws.proofs.Steps.{HeadIn, step-fine}
 use Rattle.file_laws.proofs.Ranges.{rows-in-range}
 use Rattle.file_laws.proofs.Stacking.{rows-stacked}
 use Rattle.exact_lengths.specs.Tables.{RowHeld}
@@ -37,9 +43,24 @@ row-long (extension type code a b c) = padded-long _ _
 row-long (label id flag n v a b c d f g) = padded-long _ _
 row-long (shape id num first a b c d f) = padded-long _ _
 
-twelve : {e : Edition} {rs : List Placed} → AllIn e rs → Twelve rs
-twelve no-rows = no-row
-twelve (one-more r rs) = one-row (row-long r) (twelve rs)
+-- and so has each row of a file, also of one that is at fault further on
+twelve-from : (st : State) (n : ℕ) (ls : List (List ℕ)) → HeadIn (st .place) → Twelve (rowsFrom st n ls)
+unfolding gathered rowAt isFault isRow
+twelve-from st n [] h = no-row
+twelve-from st n (l ∷ ls) h =
+    let fine = step-fine st h n l in
+    go (stepOf st n l .found) (λ e. row-long (fine .row e)) (twelve-from (stepOf st n l .next) (suc n) ls (fine .head))
+  where
+    go : (f : Found) → (f ≡ Row → length (stepOf st n l .cells) ≡ 12) → {rs : List Placed} → Twelve rs
+        → Twelve (cond (isFault f) [] (cond (isRow f) (record { line = stepOf st n l .line; cells = stepOf st n l .cells } ∷ []) [] ++ rs))
+    go Nothing w t = t
+    go Row w t = one-row (w refl) t
+    go Definition w t = t
+    go (Fault f) w t = no-row
+
+pub rows-twelve : (file : List ℕ) → Twelve (rowsOf file)
+unfolding rowsOf
+rows-twelve file = twelve-from fresh 1 (linesOf file) tt
 
 row-in : {e : Edition} {rs : List Placed} → AllIn e rs → (k : ℕ) → k < length rs → RowIn e (cellsOf rs k)
 unfolding cellsOf
@@ -57,7 +78,7 @@ rows-held file st table e m k h =
       cells = cellsOf (rowsOf file) k;
       sound = sound;
       numbers =
-          λ c. ⊎-elim (λ (l : c < 12). row-held (rowsOf file) (twelve all) table m k c h l)
+          λ c. ⊎-elim (λ (l : c < 12). row-held (rowsOf file) (rows-twelve file) table m k c h l)
           (λ (l : 12 ≤ c). sym (number-beyond (laidRows table 0 (rowsOf file)) k c l) ∙ sym (List·getD-eq-default (cellsOf (rowsOf file) k) (pos 0) (rw (row-long sound) l))) (lt-or-ge c 12);
     }
 
@@ -93,7 +114,7 @@ module _ (file : List ℕ) (st : State) (table : List ℤ) (e : verdictOf file �
   rows = laidRows table 0 (rowsOf file)
 
   held : (k c : ℕ) → k < length (rowsOf file) → c < 12 → numberAt rows k c ≡ getD (cellsOf (rowsOf file) k) c (pos 0)
-  held k c h l = row-held (rowsOf file) (twelve (rows-in-range file st e)) table m k c h l
+  held k c h l = row-held (rowsOf file) (rows-twelve file) table m k c h l
 
   module _ (k : ℕ) (h : k < length (rowsOf file)) (f : isShapeRow rows k ≡ true) where
     is-shape : isShapeOf (cellsOf (rowsOf file) k) ≡ true

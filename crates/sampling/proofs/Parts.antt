@@ -89,7 +89,7 @@ module _ (edition : Edition) (file : List ℕ) (rows : List ℤ) (size : ℕ) wh
       go true e = shape-beside k l p n (clear e)
       go false e = refl
 
-  length-laid : (k : ℕ) (l : List ℤ) → length (laidAt edition file rows size k l) ≡ length l
+  pub length-laid : (k : ℕ) (l : List ℤ) → length (laidAt edition file rows size k l) ≡ length l
   unfolding laidAt
   length-laid k l = go (isShapeRow rows k)
     where

@@ -1,4 +1,4 @@
--- `duplicates::line_naming` meets its contract. The loop seeks the word among those of the lines that are left (`NamingWalk`). Assumes nothing.
+-- `duplicates::line_naming` meets its contract. The loop seeks the word among those of the lines that are left (`SeekWalk`). Assumes nothing.
 use borrow.Author.Needs.{needs}
 use Prim.Native.Nat.{_-_}
 use mathlib.Core.Path.{refl, sym, _∙_}
@@ -7,13 +7,14 @@ use denote.Ref.{now}
 use lib.ListN.{length, drop}
 use Rattle.text.specs.Lines.{linesOf}
 use Rattle.text.proofs.Cut.{LineAt, line-at}
-use Rattle.duplicates.specs.Words.{wordsFrom, nextLine}
-use Rattle.duplicates.proofs.Naming.{NamingWalk, naming-fault, naming-hit, naming-turn, naming-end}
+use Rattle.duplicates.specs.Words.{wordAt, wordsFrom, nextLine}
+use Rattle.duplicates.proofs.Seeking.{SeekWalk, seek-fault, seek-hit, seek-turn, seek-end}
+use Rattle.duplicates.proofs.Naming.{naming-hit, naming-miss, no-next}
 use Rattle.duplicates.proofs.line_naming.Statement.{statement}
 use Rattle.duplicates.proofs.line_naming.Tie as tie
 
 abbrev Inv-loop : tie.InvT-loop
-Inv-loop file from number sort word st₀ at₀ n₀ st at n = NamingWalk file word sort (nextLine sort word (wordsFrom st₀ n₀ (linesOf (drop at₀ file)))) st at n
+Inv-loop file from number sort word st₀ at₀ n₀ st at n = SeekWalk wordAt (nextLine sort word) file (nextLine sort word (wordsFrom st₀ n₀ (linesOf (drop at₀ file)))) st at n
 
 abbrev μ-loop : tie.MeasureT-loop
 μ-loop file from number sort word st₀ at₀ n₀ st at n = length file - at
@@ -46,7 +47,7 @@ is-fault-requires c κs = search needs
 returns : tie.Need-returns Inv-loop μ-loop
 returns c = let s = c .before .before in
     let l = s .before .before in
-    naming-fault _ _ _ _ _ _ _ (l .before .before .loop .inv) _ (here l) _ (s .step .ensures) (sym (c .before .is-fault .ensures) ∙ c .if1 .taken)
+    seek-fault (l .before .before .loop .inv) _ (here l) _ (s .step .ensures) (no-next _ _) (sym (c .before .is-fault .ensures) ∙ c .if1 .taken)
 
 sub-names : tie.Need-sub-names Inv-loop μ-loop
 sub-names c = here (c .before .before .before .before) .ordered
@@ -65,7 +66,7 @@ returns-2 c = let d = c .before in
     let e = d .before .before in
     let s = e .before .before in
     let l = s .before .before in
-    naming-hit _ _ _ _ _ _ _ (l .before .before .loop .inv) _ (here l) _ (s .step .ensures) (sym (e .before .is-fault .ensures) ∙ e .if1 .left) _ (d .names .ensures) (c .if2 .taken)
+    seek-hit (l .before .before .loop .inv) _ (here l) _ (s .step .ensures) (sym (e .before .is-fault .ensures) ∙ e .if1 .left) _ (λ rest. naming-hit _ _ _ _ _ _ (d .names .ensures) rest (c .if2 .taken))
 
 add-n : tie.Need-add-n Inv-loop μ-loop
 add-n c = let l = c .before .before .before .before .before .before .before in
@@ -80,10 +81,10 @@ loop-again c = let d = c .before .before in
     let e = d .before .before in
     let s = e .before .before in
     let l = s .before .before in
-    naming-turn _ _ _ _ _ _ _ (l .before .before .loop .inv) _ (here l) _ (s .step .ensures) (sym (e .before .is-fault .ensures) ∙ e .if1 .left) _ (d .names .ensures) (c .before .if2 .left)
+    seek-turn (l .before .before .loop .inv) _ (here l) _ (s .step .ensures) (sym (e .before .is-fault .ensures) ∙ e .if1 .left) (λ rest. naming-miss _ _ _ _ _ _ (d .names .ensures) rest (c .before .if2 .left))
 
 returns-3 : tie.Need-returns-3 Inv-loop μ-loop
-returns-3 c = naming-end _ _ _ _ _ _ _ (c .before .loop .inv) (c .loop-test .left)
+returns-3 c = seek-end (c .before .loop .inv) (no-next _ _) (c .loop-test .left)
 
 pub line-naming-spec : {M : Type 1} → statement M
 line-naming-spec =

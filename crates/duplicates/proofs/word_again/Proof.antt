@@ -1,17 +1,19 @@
 -- `duplicates::word_again` meets its contract. The loop's invariant: the first line so far, or that of the words that are left (`AgainWalk`). Assumes nothing.
 use borrow.Author.Needs.{needs}
 use Prim.Native.Nat.{_-_}
-use mathlib.Core.Path.{sym, _∙_}
+use mathlib.Core.Path.{refl, sym, _∙_}
 use native.Mathlib.Omega.{arith}
 use denote.Ref.{now}
 use lib.ListN.{length}
 use Rattle.text.proofs.Cut.{LineAt, line-at}
-use Rattle.duplicates.proofs.Naming.{AgainWalk, again-start, again-fault, again-turn, again-end}
+use Rattle.duplicates.specs.Words.{wordAt, wordsOf, againLine}
+use Rattle.duplicates.proofs.Seeking.{AgainWalk, again-start, again-fault, again-turn, again-end}
+use Rattle.duplicates.proofs.Naming.{again-front, no-again}
 use Rattle.duplicates.proofs.word_again.Statement.{statement}
 use Rattle.duplicates.proofs.word_again.Tie as tie
 
 abbrev Inv-loop : tie.InvT-loop
-Inv-loop file st₀ at₀ n₀ first₀ st at n first = AgainWalk file st at n first
+Inv-loop file st₀ at₀ n₀ first₀ st at n first = AgainWalk wordAt againLine file (againLine (wordsOf file)) st at n first
 
 abbrev μ-loop : tie.MeasureT-loop
 μ-loop file st₀ at₀ n₀ first₀ st at n first = length file - at
@@ -24,7 +26,8 @@ start-requires : tie.Need-start-requires Inv-loop μ-loop
 start-requires c κs = search needs
 
 loop-holds : tie.Need-loop-holds Inv-loop μ-loop
-loop-holds c = again-start _ _ (c .start .ensures)
+unfolding wordsOf
+loop-holds c = again-start _ _ _ (c .start .ensures) refl
 
 next-line-requires : tie.Need-next-line-requires Inv-loop μ-loop
 next-line-requires c κs = search needs
@@ -47,7 +50,7 @@ is-fault-requires c κs = search needs
 returns : tie.Need-returns Inv-loop μ-loop
 returns c = let s = c .before .before in
     let l = s .before .before in
-    again-fault _ _ _ _ _ (l .before .before .loop .inv) _ (here l) _ (s .step .ensures) (sym (c .before .is-fault .ensures) ∙ c .if1 .taken)
+    again-fault (l .before .before .loop .inv) _ (here l) _ (s .step .ensures) no-again (sym (c .before .is-fault .ensures) ∙ c .if1 .taken)
 
 add-n : tie.Need-add-n Inv-loop μ-loop
 add-n c = let l = c .before .before .before .before in
@@ -78,10 +81,10 @@ loop-again : tie.Need-loop-again Inv-loop μ-loop
 loop-again c = let e = c .before .before .before .before in
     let s = e .before .before in
     let l = s .before .before in
-    again-turn _ _ _ _ _ (l .before .before .loop .inv) _ (here l) _ (s .step .ensures) (sym (e .before .is-fault .ensures) ∙ e .if1 .left) _ (c .before .before .met-again .ensures) _ (c .before .earlier .ensures)
+    again-turn (l .before .before .loop .inv) _ (here l) _ (s .step .ensures) (sym (e .before .is-fault .ensures) ∙ e .if1 .left) _ (again-front _ _ _ _ _ (c .before .before .met-again .ensures)) _ (c .before .earlier .ensures)
 
 returns-2 : tie.Need-returns-2 Inv-loop μ-loop
-returns-2 c = again-end _ _ _ _ _ (c .before .loop .inv) (c .loop-test .left)
+returns-2 c = again-end (c .before .loop .inv) no-again (c .loop-test .left)
 
 pub word-again-spec : {M : Type 1} → statement M
 word-again-spec =

@@ -1,0 +1,2 @@
+-- What must be believed of the answers of reading.
+pub mod Answers

@@ -1,0 +1,8 @@
+-- The demands on reading.
+pub mod Passing
+pub mod Lines
+pub mod Ruling
+pub mod Samples
+pub mod Questions
+pub mod Tables
+pub mod Exactly

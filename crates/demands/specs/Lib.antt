@@ -1,0 +1,3 @@
+-- What it means that a file keeps to the lent tables, the paper's limits and its own edition's rules, and what the tables then hold.
+pub mod Rules
+pub mod Keeping

@@ -1,0 +1,3 @@
+-- Laws of what is asked of a whole file.
+pub mod Asking
+pub mod Blocks

@@ -1,0 +1,4 @@
+-- Laws of reading.
+pub mod Judging
+pub mod Looking
+pub mod Unique

@@ -1,0 +1,67 @@
+-- When nothing is looked up. Assumes nothing.
+use Prim.Native.Nat.{ℕ}
+use mathlib.Core.Bool.{Bool, true, false, not}
+use mathlib.Core.List.{List, []}
+use mathlib.Core.Path.{_≡_}
+use lib.Dec.{eqb}
+use lib.IntN.{ℤ}
+use Rattle.shape.specs.declared.Edition.{Edition}
+use Rattle.places.specs.declared.Fault.{Fault}
+use Rattle.file.specs.Rows.{scannedOf}
+use Rattle.file.specs.declared.Scanned.{Scanned}
+use Rattle.file.specs.declared.Scanned.the-variants.{File, Fault as ScannedFault}
+use Rattle.definitions.specs.Definitions.{siteFault, definitionOf}
+use Rattle.stored.specs.Shapes.{storedOf}
+use Rattle.repeats.specs.Repeats.{duplicateOf}
+use Rattle.questions.specs.Asked.{isBig}
+use Rattle.reader.specs.Looking.{isAtFault, isFaulty, lookedUp, storedUp}
+
+-- ---- whether a line is at fault
+module _ (file : List ℕ) (s : Scanned) (p : s ≡ scannedOf file) where
+  pub no-fault : {e : Edition} {n m : ℕ} {defined : Bool} → s ≡ File e n m defined → false ≡ isAtFault (scannedOf file)
+  unfolding isAtFault
+  no-fault q = rw (← p, q)
+
+  pub a-fault : {fault : Fault} {line : ℕ} → s ≡ ScannedFault fault line → true ≡ isAtFault (scannedOf file)
+  unfolding isAtFault
+  a-fault q = rw (← p, q)
+
+-- ---- whether anything is
+module _ (file site : List ℕ) (b : Bool) (p : b ≡ isBig file site) where
+  pub faulty-big : b ≡ true → true ≡ isFaulty file site
+  unfolding isFaulty
+  faulty-big h = rw (← p, h)
+
+  module _ (h : b ≡ false) (f : Bool) (q : f ≡ isAtFault (scannedOf file)) where
+    pub faulty-line : f ≡ true → true ≡ isFaulty file site
+    unfolding isFaulty
+    faulty-line i = rw (← p, h, ← q, i)
+
+    module _ (i : f ≡ false) (s : Bool) (t : s ≡ siteFault site) where
+      pub faulty-site : s ≡ true → true ≡ isFaulty file site
+      unfolding isFaulty
+      faulty-site j = rw (← p, h, ← q, i, ← t, j)
+
+      pub faulty-again : s ≡ false → (again : ℕ) → again ≡ duplicateOf file → not (eqb again 0) ≡ isFaulty file site
+      unfolding isFaulty
+      faulty-again j again k = rw (← p, h, ← q, i, ← t, j, k)
+
+-- ---- what is handed back
+module _ (file site : List ℕ) (b : Bool) (p : b ≡ isFaulty file site) where
+  module _ (key : List ℕ) where
+    pub nothing-looked : b ≡ true → [] ≡ lookedUp file site key
+    unfolding lookedUp
+    nothing-looked h = rw (← p, h)
+
+    pub looked : b ≡ false → definitionOf file site key ≡ lookedUp file site key
+    unfolding lookedUp
+    looked h = rw (← p, h)
+
+  module _ (id : ℤ) where
+    pub nothing-stored : b ≡ true → [] ≡ storedUp file site id
+    unfolding storedUp
+    nothing-stored h = rw (← p, h)
+
+    pub stored-looked : b ≡ false → storedOf file id ≡ storedUp file site id
+    unfolding storedUp
+    stored-looked h = rw (← p, h)

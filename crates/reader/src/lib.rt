@@ -1,0 +1,195 @@
+// Reading a file with a site's definitions, in one call for every byte string: an acceptance with its tables, or a numbered refusal with its line and
+// tables of zeros. And what is looked up in a file: a definition, and the stored lines of a shape.
+ghost use mathlib.Core.Path.{_≡_};
+ghost use lib.ListN.{length};
+ghost use Rattle.file.specs.Rows.{scannedOf};
+ghost use Rattle.answers.specs.declared.Answer.the-variants.{Accepted};
+ghost use Rattle.reader.specs.Reading.{zeros, rulesAsked, Reading};
+ghost use Rattle.reader.specs.Looking.{isAtFault, isFaulty, lookedUp, storedUp};
+ghost use Rattle.reader.specs.Inside.{RowsJudged, TextsJudged, FileJudged, AllJudged};
+use answers::Answer;
+use answers::Refusal;
+use file::Scanned;
+use shape::Edition;
+use unit::Rasters;
+
+// Fills a lent table with zeros.
+fn clear(table: &mut [i64])
+    ensures { λ r. ⌜ now (table .exit) ≡ zeros (length (now (table .entry))) ⌝ }
+{
+    let mut i: usize = 0;
+    while i < table.len() {
+        table[i] = 0;
+        i += 1;
+    }
+}
+
+// REFERENCE to OUTLASTS: the first rule that is broken, at the first of n rows that breaks it.
+fn ask_rules(
+    edition: Edition,
+    rasters: Rasters,
+    file: &[u8],
+    rows: &[i64],
+    n: usize,
+    samples: &[i64],
+    count: usize,
+) -> Answer
+    ensures { λ r. ⌜ r ≡ rulesAsked edition rasters (now (file .entry)) (now (rows .entry)) n (now (samples .entry)) (Accepted n count) ⌝ }
+{
+    let mut i: usize = 0;
+    while i < 6 {
+        let rule = questions::rule_at(i);
+        let k = rules::first_broken(rule, edition, rasters, rows, n, samples);
+        if k < n {
+            return Answer::Refused(questions::rule_refusal(rule), file::row_line(file, k));
+        }
+        i += 1;
+    }
+    Answer::Accepted {
+        rows: n,
+        samples: count,
+    }
+}
+
+// SHAPE and the rules over the rows; fills in the samples and, if the file is accepted, each block's length.
+fn judge_rows(
+    edition: Edition,
+    rasters: Rasters,
+    file: &[u8],
+    rows: &mut [i64],
+    n: usize,
+    samples: &mut [i64],
+    count: usize,
+) -> Answer
+    ensures { λ r. ⌜ RowsJudged edition rasters (now (file .entry)) n count (now (rows .entry)) (now (samples .entry)) r (now (rows .exit)) (now (samples .exit)) ⌝ }
+{
+    let failing = sampling::expand_shapes(file, edition, rows, n, samples);
+    if failing < n {
+        return Answer::Refused(Refusal::Shape, file::row_line(file, failing));
+    }
+    let answer = ask_rules(edition, rasters, file, rows, n, samples, count);
+    if answer.is_accepted() {
+        rules::fill_lengths(edition, rasters, rows, n, samples);
+    }
+    answer
+}
+
+// SITE, DUPLICATE and RASTER, and then the rest, of a file whose rows are laid over the table.
+fn judge_texts<'a>(
+    edition: Edition,
+    file: &'a [u8],
+    site: &'a [u8],
+    rows: &mut [i64],
+    n: usize,
+    samples: &mut [i64],
+    count: usize,
+) -> Answer
+    ensures { λ r. ⌜ TextsJudged edition (now (file .entry)) (now (site .entry)) n count (now (rows .entry)) (now (samples .entry)) r (now (rows .exit)) (now (samples .exit)) ⌝ }
+{
+    if questions::has_bad_site(edition, site) {
+        return Answer::Refused(Refusal::Site, 0);
+    }
+    let again = duplicates::first_duplicate(file, rows, n);
+    if again != 0 {
+        return Answer::Refused(Refusal::Duplicate, again);
+    }
+    let rasters = rasters::rasters(edition, file, site);
+    if rasters::is_lacking(edition, rasters) {
+        return Answer::Refused(Refusal::Raster, 0);
+    }
+    judge_rows(edition, rasters, file, rows, n, samples, count)
+}
+
+// All that is asked of a file that is not too long.
+fn judge_file<'a>(file: &'a [u8], site: &'a [u8], rows: &mut [i64], samples: &mut [i64]) -> Answer
+    ensures { λ r. ⌜ FileJudged (now (file .entry)) (now (site .entry)) (now (rows .entry)) (now (samples .entry)) r (now (rows .exit)) (now (samples .exit)) ⌝ }
+{
+    match file::scan(file, rows) {
+        Scanned::File {
+            edition,
+            rows: n,
+            samples: count,
+            defined,
+        } => {
+            if questions::is_missing(edition, questions::has_block(file), defined) {
+                return Answer::Refused(Refusal::Missing, 0);
+            }
+            if questions::lacks_room(n, count, rows.len(), samples.len()) {
+                return Answer::Refused(Refusal::Room, 0);
+            }
+            judge_texts(edition, file, site, rows, n, samples, count as usize)
+        }
+        Scanned::Fault(fault, line) => Answer::Refused(questions::fault_refusal(fault), line),
+    }
+}
+
+// All that is asked of a file.
+fn judge<'a>(file: &'a [u8], site: &'a [u8], rows: &mut [i64], samples: &mut [i64]) -> Answer
+    ensures { λ r. ⌜ AllJudged (now (file .entry)) (now (site .entry)) (now (rows .entry)) (now (samples .entry)) r (now (rows .exit)) (now (samples .exit)) ⌝ }
+{
+    if questions::is_big(file, site) {
+        return Answer::Refused(Refusal::Big, 0);
+    }
+    judge_file(file, site, rows, samples)
+}
+
+// Reads a file with a site's definitions into lent tables, of rows and of samples; on a refusal both hold zeros throughout.
+pub fn read<'a>(file: &'a [u8], site: &'a [u8], rows: &mut [i64], samples: &mut [i64]) -> Answer
+    ensures { λ r. ⌜ Reading (now (file .entry)) (now (site .entry)) (now (rows .entry)) (now (samples .entry)) r (now (rows .exit)) (now (samples .exit)) ⌝ }
+{
+    clear(rows);
+    clear(samples);
+    let answer = judge(file, site, rows, samples);
+    if !answer.is_accepted() {
+        clear(rows);
+        clear(samples);
+    }
+    answer
+}
+
+// Is a line of a file at fault?
+fn has_fault(file: &[u8]) -> bool
+    ensures { λ r. ⌜ r ≡ isAtFault (scannedOf (now (file .entry))) ⌝ }
+{
+    let mut none = [0i64; 1];
+    match file::scan(file, &mut none) {
+        Scanned::File { .. } => false,
+        Scanned::Fault(_, _) => true,
+    }
+}
+
+// Is there a fault for which nothing is looked up: 1 to 5, 8 or 9?
+fn is_faulty(file: &[u8], site: &[u8]) -> bool
+    ensures { λ r. ⌜ r ≡ isFaulty (now (file .entry)) (now (site .entry)) ⌝ }
+{
+    if questions::is_big(file, site) {
+        return true;
+    }
+    if has_fault(file) {
+        return true;
+    }
+    if definitions::site_fault(site) {
+        return true;
+    }
+    repeats::duplicate_line(file) != 0
+}
+
+// The value of a key as a part of the file's text or of the site's: the file's if both define it; empty if neither does, or at a fault.
+pub fn definition<'a>(file: &'a [u8], site: &'a [u8], key: &[u8]) -> &'a [u8]
+    ensures { λ r. ⌜ now r ≡ lookedUp (now (file .entry)) (now (site .entry)) (now (key .entry)) ⌝ }
+{
+    if is_faulty(file, site) {
+        return &file[..0];
+    }
+    definitions::definition(file, site, key)
+}
+
+// The stored lines of a shape as a part of the file's text; empty if there is no such shape, or at a fault.
+pub fn stored_lines<'a>(file: &'a [u8], site: &'a [u8], id: i64) -> &'a [u8]
+    ensures { λ r. ⌜ now r ≡ storedUp (now (file .entry)) (now (site .entry)) id ⌝ }
+{
+    if is_faulty(file, site) {
+        return &file[..0];
+    }
+    stored::stored_lines(file, id)
+}

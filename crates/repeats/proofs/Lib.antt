@@ -1,0 +1,5 @@
+-- The laws of what is met again in a text.
+pub mod Having
+pub mod Twice
+pub mod Laid
+pub mod Examples
