@@ -1,4 +1,5 @@
 -- The demands on reading.
+pub mod Answering
 pub mod Passing
 pub mod Lines
 pub mod Ruling

@@ -1,3 +1,4 @@
 -- What it means that a file keeps to the lent tables, the paper's limits and its own edition's rules, and what the tables then hold.
+pub mod Answered
 pub mod Rules
 pub mod Keeping
