@@ -9,10 +9,10 @@ ghost use Rattle.grammar.specs.Parts.{movedBy};
 ghost use Rattle.file.specs.Whole.{isDefined};
 ghost use Rattle.definitions.specs.Definitions.{definitionsOf, siteLine, siteDefinitions, siteFault, isNamed, sought, definitionOf};
 ghost use Rattle.definitions.specs.Places.{filePlace, sitePlace};
+use fields::Part;
 use places::Fault;
 use places::Found;
 use text::Mark;
-use fields::Part;
 
 // Is this a definition?
 fn is_defined(found: Found) -> bool

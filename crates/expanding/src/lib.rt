@@ -308,17 +308,6 @@ fn lay(stored: &[u8], samples: &mut [i64], num: usize, plain: bool) -> bool
     lay_runs(stored, samples, num)
 }
 
-// Zeros from a place on.
-fn clear_from(samples: &mut [i64], from: usize)
-    ensures { λ r. ⌜ now (samples .exit) ≡ clearedFrom (pos 0) from (now (samples .entry)) ⌝ }
-{
-    let mut i = from;
-    while i < samples.len() {
-        samples[i] = 0;
-        i += 1;
-    }
-}
-
 // Lays the samples and answers, before what was lent is cleared.
 fn lay_all(stored: &[u8], num: usize, edition: Edition, samples: &mut [i64]) -> Expanded
     ensures { λ r. ⌜ LaidAll edition num (now (stored .entry)) (now (samples .entry)) (now (samples .exit)) r ⌝ }
@@ -349,19 +338,19 @@ pub fn expand(stored: &[u8], num: usize, edition: Edition, samples: &mut [i64]) 
 {
     match lay_all(stored, num, edition, samples) {
         Expanded::Samples(n) => {
-            clear_from(samples, n);
+            output::clear_numbers(samples, n);
             Expanded::Samples(n)
         }
         Expanded::Field => {
-            clear_from(samples, 0);
+            output::clear_numbers(samples, 0);
             Expanded::Field
         }
         Expanded::Shape => {
-            clear_from(samples, 0);
+            output::clear_numbers(samples, 0);
             Expanded::Shape
         }
         Expanded::Room => {
-            clear_from(samples, 0);
+            output::clear_numbers(samples, 0);
             Expanded::Room
         }
     }

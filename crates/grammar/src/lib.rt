@@ -9,6 +9,7 @@ ghost use Rattle.fields.specs.Fields.{fieldsOf};
 ghost use Prim.Native.Nat.{_≤_};
 ghost use lib.ListN.{replicate};
 use columns::Form;
+use fields::Part;
 use heads::Head;
 use numeral::Natural;
 use places::Fault;
@@ -20,7 +21,6 @@ use places::State;
 use places::Stepped;
 use shape::Item;
 use text::Mark;
-use fields::Part;
 
 // The largest ID.
 const LARGEST_ID: u64 = 2147483647;

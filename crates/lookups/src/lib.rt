@@ -4,8 +4,8 @@ ghost use mathlib.Core.Path.{_≡_};
 ghost use Rattle.file.specs.Rows.{scannedOf};
 ghost use Rattle.lookups.specs.Looking.{isAtFault, isFaulty, lookedUp, storedUp};
 ghost use Rattle.lookups.specs.Spots.{sourceNumber, spotNumber, spotStart, spotLength, spotIn, eitherSpot, definitionSpot, storedSpot};
-use file::Scanned;
 use fields::Part;
+use file::Scanned;
 
 // Which of the two lent texts.
 pub enum Source {

@@ -33,3 +33,8 @@ module _ {A : Type 0} (z : A) where
       let n : length l - i ≡ 0 = omega arith in
       let e : take i l ++ replicate (length l - i) z ≡ l = rw (n, take-all i l h) (append-nil l) in
       sym e ∙ c .same
+
+  -- from the first place on
+  pub cleared-all : (l : List A) → clearedFrom z 0 l ≡ replicate (length l) z
+  unfolding clearedFrom
+  cleared-all l = let e : length l - 0 ≡ length l = omega arith in rw e

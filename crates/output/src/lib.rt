@@ -1,8 +1,9 @@
-// Bytes laid over a lent output, and what was laid from its front on.
+// Bytes laid over a lent output, what was laid from its front on, and what is lent, cleared.
 ghost use mathlib.Core.Path.{_≡_};
 ghost use mathlib.Core.List.{[], _∷_};
+ghost use lib.IntN.{pos};
 ghost use lib.ListN.{take};
-ghost use Rattle.output.specs.Over.{Put};
+ghost use Rattle.output.specs.Over.{Put, clearedFrom};
 
 // The first n bytes, or all where there are fewer: of an output, what was laid over it.
 pub fn front(bytes: &[u8], n: usize) -> &[u8]
@@ -38,4 +39,26 @@ pub fn put_bytes(out: &mut [u8], at: usize, bytes: &[u8]) -> usize
         i += 1;
     }
     place
+}
+
+// Fills a lent output with zeros from a place on.
+pub fn clear_bytes(out: &mut [u8], from: usize)
+    ensures { λ r. ⌜ now (out .exit) ≡ clearedFrom 0 from (now (out .entry)) ⌝ }
+{
+    let mut i = from;
+    while i < out.len() {
+        out[i] = 0;
+        i += 1;
+    }
+}
+
+// Fills a lent table with zeros from a place on.
+pub fn clear_numbers(table: &mut [i64], from: usize)
+    ensures { λ r. ⌜ now (table .exit) ≡ clearedFrom (pos 0) from (now (table .entry)) ⌝ }
+{
+    let mut i = from;
+    while i < table.len() {
+        table[i] = 0;
+        i += 1;
+    }
 }

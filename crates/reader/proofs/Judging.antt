@@ -4,13 +4,11 @@ use mathlib.Core.Bool.{Bool, true, false, cond, _||_, true≢false}
 use mathlib.Core.List.{List, _∷_}
 use mathlib.Core.Path.{_≡_, refl, sym, ap, _∙_}
 use native.Mathlib.Numerals.{add-one}
-use native.Mathlib.Omega.{arith}
 use borrow.Author.Tests.{eq-eqb, ne-eqb, lt-ltb, le-ltb, ltb-false}
 use lib.Dec.{ltb}
-use lib.IntN.{ℤ, pos}
+use lib.IntN.{ℤ}
 use lib.ListN.{length, drop, drop-of-length-le}
 use lib.Seq.{drop-cons}
-use Rattle.output.specs.Over.{clearedFrom}
 use Rattle.unit.specs.declared.Rasters.{Rasters}
 use Rattle.shape.specs.declared.Edition.{Edition}
 use Rattle.places.specs.declared.Fault.{Fault}
@@ -35,11 +33,6 @@ use Rattle.answers.specs.declared.Answer.the-variants.{Accepted, Refused}
 use Rattle.questions.specs.Asked.{isBig, faultRefusal, anyBlock, isMissing, lacksRoom, badSite, inOrder, ruleAt, ruleRefusal}
 use Rattle.reader.specs.Reading.{rowsLaid, samplesLaid, firstRefused, rulesAsked, shapesAsked, textsAsked, fileAsked, asked, rowsKept, samplesKept, zeros, ifAccepted, readOf, rowsOut, samplesOut, Reading}
 use Rattle.reader.specs.Inside.{Judged, RowsJudged, TextsJudged, FileJudged, AllJudged}
-
--- ---- a table that is cleared from its first number on
-pub cleared-all : (l : List ℤ) → clearedFrom (pos 0) 0 l ≡ zeros (length l)
-unfolding clearedFrom
-cleared-all l = let e : length l - 0 ≡ length l = omega arith in rw e
 
 -- ---- a refusal says nothing of the tables
 module _ {a : Answer} {kept samples table l : List ℤ} where

@@ -1,27 +1,15 @@
 // Reading a file with a site's definitions, in one call for every byte string: an acceptance with its tables, or a numbered refusal with its line and
 // tables of zeros.
 ghost use mathlib.Core.Path.{_≡_};
-ghost use lib.ListN.{length};
 ghost use Rattle.file.specs.Rows.{scannedOf};
 ghost use Rattle.answers.specs.declared.Answer.the-variants.{Accepted};
-ghost use Rattle.reader.specs.Reading.{zeros, rulesAsked, Reading};
+ghost use Rattle.reader.specs.Reading.{rulesAsked, Reading};
 ghost use Rattle.reader.specs.Inside.{RowsJudged, TextsJudged, FileJudged, AllJudged};
 use answers::Answer;
 use answers::Refusal;
 use file::Scanned;
 use shape::Edition;
 use unit::Rasters;
-
-// Fills a lent table with zeros.
-fn clear(table: &mut [i64])
-    ensures { λ r. ⌜ now (table .exit) ≡ zeros (length (now (table .entry))) ⌝ }
-{
-    let mut i: usize = 0;
-    while i < table.len() {
-        table[i] = 0;
-        i += 1;
-    }
-}
 
 // REFERENCE to OUTLASTS: the first rule that is broken, at the first of n rows that breaks it.
 fn ask_rules(
@@ -66,11 +54,11 @@ fn judge_rows(
     if failing < n {
         return Answer::Refused(Refusal::Shape, file::row_line(file, failing));
     }
-    let answer = ask_rules(edition, rasters, file, rows, n, samples, count);
-    if answer.is_accepted() {
+    let judged = ask_rules(edition, rasters, file, rows, n, samples, count);
+    if judged.is_accepted() {
         rules::fill_lengths(edition, rasters, rows, n, samples);
     }
-    answer
+    judged
 }
 
 // SITE, DUPLICATE and RASTER, and then the rest, of a file whose rows are laid over the table.
@@ -136,12 +124,12 @@ fn judge<'a>(file: &'a [u8], site: &'a [u8], rows: &mut [i64], samples: &mut [i6
 pub fn read<'a>(file: &'a [u8], site: &'a [u8], rows: &mut [i64], samples: &mut [i64]) -> Answer
     ensures { λ r. ⌜ Reading (now (file .entry)) (now (site .entry)) (now (rows .entry)) (now (samples .entry)) r (now (rows .exit)) (now (samples .exit)) ⌝ }
 {
-    clear(rows);
-    clear(samples);
+    output::clear_numbers(rows, 0);
+    output::clear_numbers(samples, 0);
     let answer = judge(file, site, rows, samples);
     if !answer.is_accepted() {
-        clear(rows);
-        clear(samples);
+        output::clear_numbers(rows, 0);
+        output::clear_numbers(samples, 0);
     }
     answer
 }

@@ -193,34 +193,23 @@ fn put_shape(out: &mut [u8], samples: &[i64], edition: Edition) -> usize
     put_packed(out, samples)
 }
 
-// Zeros from a place on.
-fn clear_from(out: &mut [u8], from: usize)
-    ensures { λ r. ⌜ now (out .exit) ≡ clearedFrom 0 from (now (out .entry)) ⌝ }
-{
-    let mut i = from;
-    while i < out.len() {
-        out[i] = 0;
-        i += 1;
-    }
-}
-
 // Writes samples, given in steps of 10^-12, as stored lines. The lent output holds the text and then zeros; on a refusal, zeros.
 pub fn write(samples: &[i64], edition: Edition, out: &mut [u8]) -> Written
     ensures { λ r. ⌜ Writing edition (now (samples .entry)) (now (out .entry)) r (now (out .exit)) ⌝ }
 {
     if !is_writable(samples) {
-        clear_from(out, 0);
+        output::clear_bytes(out, 0);
         return Written::Shape;
     }
     let length = put_shape(out, samples, edition);
     if out.len() < length {
-        clear_from(out, 0);
+        output::clear_bytes(out, 0);
         return Written::Output;
     }
     if 16777216 < length {
-        clear_from(out, 0);
+        output::clear_bytes(out, 0);
         return Written::Output;
     }
-    clear_from(out, length);
+    output::clear_bytes(out, length);
     Written::Text(length)
 }

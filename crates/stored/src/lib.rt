@@ -6,9 +6,9 @@ ghost use Rattle.text.specs.Lines.{wholeLinesOf};
 ghost use Rattle.text.specs.Marks.{markOf};
 ghost use Rattle.stored.specs.Shapes.{endsShape, valuesText, isShape, storedOf};
 ghost use Rattle.stored.specs.Places.{storedPlace};
+use fields::Part;
 use places::Stepped;
 use text::Mark;
-use fields::Part;
 
 // Does this line end a shape's stored lines?
 fn ends_shape(line: &[u8]) -> bool

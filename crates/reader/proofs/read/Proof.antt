@@ -1,16 +1,18 @@
 -- `reader::read` meets its contract. Assumes nothing.
 use Rattle.reader.proofs.Judging.{read-accepted, read-refused}
+use Rattle.output.proofs.Clear.{cleared-all}
 use borrow.Author.Tests.{not-true, not-false}
 use mathlib.Core.Path.{sym, _∙_}
+use lib.IntN.{pos}
 use borrow.Author.Needs.{needs}
 use Rattle.reader.proofs.read.Statement.{statement}
 use Rattle.reader.proofs.read.Tie as tie
 
-clear-requires : tie.Need-clear-requires
-clear-requires c κs = search needs
+clear-numbers-requires : tie.Need-clear-numbers-requires
+clear-numbers-requires c κs = search needs
 
-clear-requires-2 : tie.Need-clear-requires-2
-clear-requires-2 c κs = search needs
+clear-numbers-requires-2 : tie.Need-clear-numbers-requires-2
+clear-numbers-requires-2 c κs = search needs
 
 judge-requires : tie.Need-judge-requires
 judge-requires c κs = search needs
@@ -18,11 +20,11 @@ judge-requires c κs = search needs
 is-accepted-requires : tie.Need-is-accepted-requires
 is-accepted-requires c κs = search needs
 
-clear-requires-3 : tie.Need-clear-requires-3
-clear-requires-3 c κs = search needs
+clear-numbers-requires-3 : tie.Need-clear-numbers-requires-3
+clear-numbers-requires-3 c κs = search needs
 
-clear-requires-4 : tie.Need-clear-requires-4
-clear-requires-4 c κs = search needs
+clear-numbers-requires-4 : tie.Need-clear-numbers-requires-4
+clear-numbers-requires-4 c κs = search needs
 
 same-length : tie.Need-same-length
 same-length c = search needs
@@ -38,7 +40,7 @@ returns c = let z = c .before in
     let j = a .before .before .before in
     let b = j .before .before .before .before in
     let d = b .before .before .before in
-    read-refused _ _ _ _ _ _ _ _ (d .clear .ensures) (b .clear2 .ensures) _ (j .judge .ensures) (sym (a .is-accepted .ensures) ∙ not-true _ (t .if1 .taken)) _ _ (y .clear3 .ensures) (z .clear4 .ensures) (j .judge .kept .1 .1 .0) (j .judge .kept .1 .1 .1 .0) (d .clear .kept .0) (b .clear2 .kept .0)
+    read-refused _ _ _ _ _ _ _ _ (d .clear-numbers .ensures ∙ cleared-all (pos 0) _) (b .clear-numbers2 .ensures ∙ cleared-all (pos 0) _) _ (j .judge .ensures) (sym (a .is-accepted .ensures) ∙ not-true _ (t .if1 .taken)) _ _ (y .clear-numbers3 .ensures ∙ cleared-all (pos 0) _) (z .clear-numbers4 .ensures ∙ cleared-all (pos 0) _) (j .judge .kept .1 .1 .0) (j .judge .kept .1 .1 .1 .0) (d .clear-numbers .kept .0) (b .clear-numbers2 .kept .0)
 
 same-length-3 : tie.Need-same-length-3
 same-length-3 c = search needs
@@ -51,18 +53,18 @@ returns-2 c = let a = c .before in
     let j = a .before .before .before in
     let b = j .before .before .before .before in
     let d = b .before .before .before in
-    read-accepted _ _ _ _ _ _ _ _ (d .clear .ensures) (b .clear2 .ensures) _ (j .judge .ensures) (sym (a .is-accepted .ensures) ∙ not-false _ (c .if1 .left))
+    read-accepted _ _ _ _ _ _ _ _ (d .clear-numbers .ensures ∙ cleared-all (pos 0) _) (b .clear-numbers2 .ensures ∙ cleared-all (pos 0) _) _ (j .judge .ensures) (sym (a .is-accepted .ensures) ∙ not-false _ (c .if1 .left))
 
 pub read-spec : {M : Type 1} → statement M
 read-spec =
     tie.close
     (tie.spec
-    clear-requires
-    clear-requires-2
+    clear-numbers-requires
+    clear-numbers-requires-2
     judge-requires
     is-accepted-requires
-    clear-requires-3
-    clear-requires-4
+    clear-numbers-requires-3
+    clear-numbers-requires-4
     same-length
     same-length-2
     returns

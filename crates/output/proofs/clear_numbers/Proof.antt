@@ -1,27 +1,27 @@
--- `expanding::clear_from` meets its contract. The loop clears (`Clearing`). Assumes nothing.
+-- `output::clear_numbers` meets its contract. The loop clears (`Clearing`). Assumes nothing.
 use Prim.Native.Nat.{_-_}
 use lib.ListN.{length}
 use lib.IntN.{pos}
 use native.Mathlib.Omega.{arith}
 use Rattle.output.proofs.Clear.{Clearing, clear-start, clear-turn, clear-end}
 use borrow.Author.Needs.{needs}
-use Rattle.expanding.proofs.clear_from.Statement.{statement}
-use Rattle.expanding.proofs.clear_from.Tie as tie
+use Rattle.output.proofs.clear_numbers.Statement.{statement}
+use Rattle.output.proofs.clear_numbers.Tie as tie
 
 abbrev Inv-loop : tie.InvT-loop
-Inv-loop samples₀ from i₀ samples i = Clearing (pos 0) samples₀ from samples i
+Inv-loop table₀ from i₀ table i = Clearing (pos 0) table₀ from table i
 
 abbrev μ-loop : tie.MeasureT-loop
-μ-loop samples₀ from i₀ samples i = length samples₀ - i
+μ-loop table₀ from i₀ table i = length table₀ - i
 
 loop-holds : tie.Need-loop-holds Inv-loop μ-loop
 loop-holds c = clear-start (pos 0) _ _
 
-mul-samples : tie.Need-mul-samples Inv-loop μ-loop
-mul-samples c = search needs
+mul-table : tie.Need-mul-table Inv-loop μ-loop
+mul-table c = search needs
 
-slice-set-of-samples : tie.Need-slice-set-of-samples Inv-loop μ-loop
-slice-set-of-samples c = search needs
+slice-set-of-table : tie.Need-slice-set-of-table Inv-loop μ-loop
+slice-set-of-table c = search needs
 
 add-i : tie.Need-add-i Inv-loop μ-loop
 add-i c = search needs
@@ -38,15 +38,15 @@ same-length c = c .before .loop .inv .long
 returns : tie.Need-returns Inv-loop μ-loop
 returns c = clear-end (pos 0) _ _ (c .before .loop .inv) (omega arith)
 
-pub clear-from-spec : {M : Type 1} → statement M
-clear-from-spec =
+pub clear-numbers-spec : {M : Type 1} → statement M
+clear-numbers-spec =
     tie.close
     (tie.spec
     Inv-loop
     μ-loop
     loop-holds
-    mul-samples
-    slice-set-of-samples
+    mul-table
+    slice-set-of-table
     add-i
     loop-less
     loop-again

@@ -1,11 +1,11 @@
--- `shape_text::clear_from` meets its contract. The loop's invariant: what is cleared from i on is the output cleared from the start on. Assumes nothing.
+-- `output::clear_bytes` meets its contract. The loop's invariant: what is cleared from i on is the output cleared from the start on. Assumes nothing.
 use Prim.Native.Nat.{_-_}
 use native.Mathlib.Omega.{arith}
 use lib.ListN.{length}
 use Rattle.output.proofs.Clear.{Clearing, clear-start, clear-turn, clear-end}
 use borrow.Author.Needs.{needs}
-use Rattle.shape_text.proofs.clear_from.Statement.{statement}
-use Rattle.shape_text.proofs.clear_from.Tie as tie
+use Rattle.output.proofs.clear_bytes.Statement.{statement}
+use Rattle.output.proofs.clear_bytes.Tie as tie
 
 abbrev Inv-loop : tie.InvT-loop
 Inv-loop out₀ from i₀ out i = Clearing 0 out₀ from out i
@@ -34,8 +34,8 @@ same-length c = c .before .loop .inv .long
 returns : tie.Need-returns Inv-loop μ-loop
 returns c = clear-end 0 _ _ (c .before .loop .inv) (omega arith)
 
-pub clear-from-spec : {M : Type 1} → statement M
-clear-from-spec =
+pub clear-bytes-spec : {M : Type 1} → statement M
+clear-bytes-spec =
     tie.close
     (tie.spec
     Inv-loop
