@@ -7,3 +7,4 @@ pub mod Samples
 pub mod Questions
 pub mod Tables
 pub mod Exactly
+pub mod Marked

@@ -1,2 +1,0 @@
--- The paper's marked examples, shown of the definitions.
-pub mod Marked
