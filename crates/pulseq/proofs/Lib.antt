@@ -1,0 +1,3 @@
+-- Laws of the library's functions.
+pub mod Telling
+pub mod Unique

@@ -1,0 +1,132 @@
+// The library's functions for C and Rust. Each answers for every input: it writes all of what is lent, and lays the numbers of its answer over a lent
+// `answer`, as many as fit, with zeros behind them.
+ghost use mathlib.Core.Path.{_≡_};
+ghost use lib.ListN.{length, getD, replicate};
+ghost use Rattle.reader.specs.Reading.{zeros};
+ghost use Rattle.pulseq.specs.Exports.{told, editionOf, ReadTold, ExpandTold, WriteTold};
+use shape::Edition;
+
+// The edition that a number names: 103 is 1.3, and 104 is 1.4.
+enum Named {
+    Known(Edition),
+    Unknown,
+}
+
+// The edition that a number names.
+fn edition_of(edition: u64) -> Named
+    ensures { λ r. ⌜ r ≡ editionOf edition ⌝ }
+{
+    if edition == 103 {
+        return Named::Known(Edition::V13);
+    }
+    if edition == 104 {
+        return Named::Known(Edition::V14);
+    }
+    Named::Unknown
+}
+
+// The number at a place; 0 behind the last.
+fn number_at(numbers: &[u64], i: usize) -> u64
+    ensures { λ r. ⌜ r ≡ getD (now (numbers .entry)) i 0 ⌝ }
+{
+    if i < numbers.len() {
+        return numbers[i];
+    }
+    0
+}
+
+// Lays numbers over a lent answer, as many as fit, and zeros behind them.
+fn tell(answer: &mut [u64], numbers: &[u64])
+    ensures { λ r. ⌜ now (answer .exit) ≡ told (length (now (answer .entry))) (now (numbers .entry)) ⌝ }
+{
+    let mut i: usize = 0;
+    while i < answer.len() {
+        answer[i] = number_at(numbers, i);
+        i += 1;
+    }
+}
+
+// Fills a lent table with zeros.
+fn clear_table(table: &mut [i64])
+    ensures { λ r. ⌜ now (table .exit) ≡ zeros (length (now (table .entry))) ⌝ }
+{
+    let mut i: usize = 0;
+    while i < table.len() {
+        table[i] = 0;
+        i += 1;
+    }
+}
+
+// Fills a lent output with zeros.
+fn clear_output(out: &mut [u8])
+    ensures { λ r. ⌜ now (out .exit) ≡ replicate (length (now (out .entry))) 0 ⌝ }
+{
+    let mut i: usize = 0;
+    while i < out.len() {
+        out[i] = 0;
+        i += 1;
+    }
+}
+
+// Reads a file with a site's definitions into lent tables, and tells the number, the line, and how many rows and samples are used.
+#[no_mangle]
+pub extern "C" fn pulseq_read<'a>(
+    file: &'a [u8],
+    site: &'a [u8],
+    rows: &mut [i64],
+    samples: &mut [i64],
+    answer: &mut [u64],
+)
+    ensures { λ r. ⌜ ReadTold (now (file .entry)) (now (site .entry)) (now (rows .entry)) (now (samples .entry)) (now (answer .entry)) (now (rows .exit)) (now (samples .exit)) (now (answer .exit)) ⌝ }
+{
+    let read = reader::read(file, site, rows, samples);
+    let numbers = [
+        read.number(),
+        read.line() as u64,
+        read.rows() as u64,
+        read.samples() as u64,
+    ];
+    tell(answer, &numbers);
+}
+
+// Expands stored lines into lent samples, and tells the number and how many samples are used.
+#[no_mangle]
+pub extern "C" fn pulseq_expand(
+    stored: &[u8],
+    num: u64,
+    edition: u64,
+    samples: &mut [i64],
+    answer: &mut [u64],
+)
+    ensures { λ r. ⌜ ExpandTold (now (stored .entry)) num edition (now (samples .entry)) (now (answer .entry)) (now (samples .exit)) (now (answer .exit)) ⌝ }
+{
+    match edition_of(edition) {
+        Named::Known(known) => {
+            let expanded = shape::expand(stored, num as usize, known, samples);
+            let numbers = [expanded.number(), expanded.used() as u64];
+            tell(answer, &numbers);
+        }
+        Named::Unknown => {
+            clear_table(samples);
+            tell(answer, &[3, 0]);
+        }
+    }
+}
+
+// Writes samples as stored lines into a lent output, and tells the number and how long the text is.
+#[no_mangle]
+pub extern "C" fn pulseq_write(samples: &[i64], edition: u64, out: &mut [u8], answer: &mut [u64])
+    ensures { λ r. ⌜ WriteTold (now (samples .entry)) edition (now (out .entry)) (now (answer .entry)) (now (out .exit)) (now (answer .exit)) ⌝ }
+{
+    match edition_of(edition) {
+        Named::Known(known) => {
+            let written = shape_text::write(samples, known, out);
+            let numbers = [written.number(), written.size() as u64];
+            tell(answer, &numbers);
+        }
+        Named::Unknown => {
+            clear_output(out);
+            tell(answer, &[3, 0]);
+        }
+    }
+}
