@@ -1,2 +1,3 @@
 -- The laws of seeking a key, line by line.
+pub mod Placing
 pub mod Seeking

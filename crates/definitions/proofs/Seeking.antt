@@ -1,5 +1,5 @@
--- A key sought among definitions, line by line. Assumes nothing.
-use Prim.Native.Nat.{ℕ, _+_, _-_, _≤_, _<_}
+-- The value of a key, and the lines of a site's definitions. Assumes nothing.
+use Prim.Native.Nat.{ℕ, _-_, _≤_, _<_}
 use mathlib.Core.Bool.{Bool, true, false, cond, _&&_, _||_, true≢false}
 use mathlib.Core.List.{List, [], _∷_, _++_}
 use mathlib.Core.Path.{_≡_, refl, sym, ap, _∙_}
@@ -16,68 +16,12 @@ use Rattle.text.specs.declared.Mark.{Mark}
 use Rattle.text.specs.declared.Mark.the-variants.{Blank, Comment, Section, Plain}
 use Rattle.text.proofs.Cut.{LineAt}
 use Rattle.grammar.specs.Definitions.{keyOf, valueOf, isDefinition}
-use Rattle.places.specs.Places.{fresh}
-use Rattle.grammar.specs.Steps.{stepOf}
 use Rattle.places.specs.declared.Fault.{Fault}
 use Rattle.places.specs.declared.Fault.the-variants.{Line as LineFault, Field as FieldFault}
 use Rattle.places.specs.declared.Found.{Found}
 use Rattle.places.specs.declared.Found.the-variants.{Nothing, Row, Definition as FoundDefinition, Fault as FoundFault}
-use Rattle.places.specs.declared.State.{State}
-use Rattle.places.specs.declared.Stepped.{Stepped}
 use Rattle.file.specs.Whole.{isFault, isDefined}
-use Rattle.definitions.specs.Definitions.{Definition, definitionAt, definitionsFrom, definitionsOf, siteMark, siteLine, siteAt, siteIn, siteDefinitions, anyFault, isNamed, repeats, siteFault, sought, eitherOf}
-use Rattle.file.proofs.Walking.{Within, within-start, within-turn, gathered-turn, gathered-stop, gathered-end}
-
--- ---- one definition in front of others, or none
-module _ (d : Definition) (rest : List Definition) (key : List ℕ) where
-  hit : (b : Bool) → b && sameBytes (d .key) key ≡ true → d .value ≡ sought key (cond b (d ∷ []) [] ++ rest)
-  unfolding sought
-  hit true e = rw e
-  hit false e = absurd (true≢false (sym e))
-
-  miss : (b : Bool) → b && sameBytes (d .key) key ≡ false → sought key rest ≡ sought key (cond b (d ∷ []) [] ++ rest)
-  unfolding sought
-  miss true e = rw e
-  miss false e = refl
-
-none : (key : List ℕ) → [] ≡ sought key []
-unfolding sought
-none key = refl
-
--- ---- the loop over a file
-pub record SoughtWalk (file key : List ℕ) (st : State) (at n : ℕ) : Type 0 where
-  pub within : Within file at n
-  pub same : sought key (definitionsFrom st n (linesOf (drop at file))) ≡ sought key (definitionsOf file)
-
-pub sought-start : (file key : List ℕ) (st : State) → st ≡ fresh → SoughtWalk file key st 0 1
-unfolding definitionsOf
-sought-start file key st e = record { within = within-start file; same = rw e }
-
-module _ (file key : List ℕ) (st : State) (at n : ℕ) (w : SoughtWalk file key st at n) where
-  module _ (r : Line) (l : LineAt file at r) (s : Stepped) (p : s ≡ stepOf st n (take (r .stop - at) (drop at file))) where
-    abbrev lineHere : List ℕ
-    lineHere = take (r .stop - at) (drop at file)
-
-    abbrev found : Definition
-    found = record { line = n; key = keyOf lineHere; value = valueOf lineHere }
-
-    pub sought-fault : isFault (s .found) ≡ true → [] ≡ sought key (definitionsOf file)
-    sought-fault e = none key ∙ ap (sought key) (gathered-stop file at r l st n s p definitionAt e) ∙ w .same
-
-    module _ (e : isFault (s .found) ≡ false) where
-      more : sought key (definitionAt n lineHere s ++ definitionsFrom (s .next) (n + 1) (linesOf (drop (r .next) file))) ≡ sought key (definitionsOf file)
-      more = ap (sought key) (gathered-turn file at r l st n s p definitionAt e) ∙ w .same
-
-      pub sought-hit : isDefined (s .found) && sameBytes (keyOf lineHere) key ≡ true → valueOf lineHere ≡ sought key (definitionsOf file)
-      unfolding definitionAt
-      sought-hit h = hit found _ key (isDefined (s .found)) h ∙ more
-
-      pub sought-turn : isDefined (s .found) && sameBytes (keyOf lineHere) key ≡ false → SoughtWalk file key (s .next) (r .next) (n + 1)
-      unfolding definitionAt
-      sought-turn h = record { within = within-turn (w .within) l; same = miss found _ key (isDefined (s .found)) h ∙ more }
-
-  pub sought-end : length file ≤ at → [] ≡ sought key (definitionsOf file)
-  sought-end h = none key ∙ ap (sought key) (gathered-end file at h st n definitionAt) ∙ w .same
+use Rattle.definitions.specs.Definitions.{Definition, siteMark, siteLine, siteAt, siteIn, siteDefinitions, anyFault, isNamed, repeats, siteFault, sought, eitherOf}
 
 -- ---- a line of a site's definitions
 module _ (line : List ℕ) where
@@ -102,16 +46,9 @@ module _ (site : List ℕ) (at : ℕ) (r : Line) (l : LineAt site at r) (found :
   abbrev siteHere : List ℕ
   siteHere = take (r .stop - at) (drop at site)
 
-  abbrev inFront : Definition
-  inFront = record { line = 0; key = keyOf siteHere; value = valueOf siteHere }
-
   site-turn : isFault found ≡ false → siteAt siteHere ++ siteIn (linesOf (drop (r .next) site)) ≡ siteIn (linesOf (drop at site))
   unfolding siteIn
   site-turn e = rw (l .line, ← p, e)
-
-  site-stop : isFault found ≡ true → [] ≡ siteIn (linesOf (drop at site))
-  unfolding siteIn
-  site-stop e = rw (l .line, ← p, e)
 
   any-turn : isFault found ≡ false → anyFault (linesOf (drop (r .next) site)) ≡ anyFault (linesOf (drop at site))
   unfolding anyFault
@@ -120,27 +57,6 @@ module _ (site : List ℕ) (at : ℕ) (r : Line) (l : LineAt site at r) (found :
   any-stop : isFault found ≡ true → true ≡ anyFault (linesOf (drop at site))
   unfolding anyFault
   any-stop e = rw (l .line, ← p, e)
-
-  module _ (key : List ℕ) (w : sought key (siteIn (linesOf (drop at site))) ≡ sought key (siteDefinitions site)) where
-    pub site-fault : isFault found ≡ true → [] ≡ sought key (siteDefinitions site)
-    site-fault e = none key ∙ ap (sought key) (site-stop e) ∙ w
-
-    pub site-hit : isFault found ≡ false → isDefined found && sameBytes (keyOf siteHere) key ≡ true → valueOf siteHere ≡ sought key (siteDefinitions site)
-    unfolding siteAt
-    site-hit e h = hit inFront (siteIn (linesOf (drop (r .next) site))) key (isDefined found) h ∙ ap (λ (f : Found). sought key (cond (isDefined f) (inFront ∷ []) [] ++ siteIn (linesOf (drop (r .next) site)))) p ∙ ap (sought key) (site-turn e) ∙ w
-
-    pub site-miss : isFault found ≡ false → isDefined found && sameBytes (keyOf siteHere) key ≡ false
-        → sought key (siteIn (linesOf (drop (r .next) site))) ≡ sought key (siteDefinitions site)
-    unfolding siteAt
-    site-miss e h = miss inFront (siteIn (linesOf (drop (r .next) site))) key (isDefined found) h ∙ ap (λ (f : Found). sought key (cond (isDefined f) (inFront ∷ []) [] ++ siteIn (linesOf (drop (r .next) site)))) p ∙ ap (sought key) (site-turn e) ∙ w
-
-pub site-start : (site key : List ℕ) → sought key (siteIn (linesOf (drop 0 site))) ≡ sought key (siteDefinitions site)
-unfolding siteDefinitions
-site-start site key = refl
-
-pub site-end : (site key : List ℕ) (at : ℕ) → length site ≤ at → sought key (siteIn (linesOf (drop at site))) ≡ sought key (siteDefinitions site) → [] ≡ sought key (siteDefinitions site)
-unfolding siteIn linesOf
-site-end site key at h w = none key ∙ rw (drop-of-length-le site h) at w
 
 -- ---- of two values the first that is not empty
 pub either-second : (first second : List ℕ) → length first ≡ 0 → second ≡ eitherOf first second

@@ -1,13 +1,18 @@
-// The definitions of a file and of a site: the value of a key, and whether a site's text is at fault.
+// The definitions of a file and of a site: the value of a key and where it stands, and whether a site's text is at fault.
 ghost use mathlib.Core.Path.{_≡_};
 ghost use mathlib.Core.Bool.{_&&_};
 ghost use Rattle.text.specs.Words.{sameBytes};
-ghost use Rattle.grammar.specs.Definitions.{keyOf};
+ghost use Prim.Native.Nat.{_-_, _≤_};
+ghost use lib.ListN.{length, take, drop};
+ghost use Rattle.grammar.specs.Definitions.{keyOf, valuePart};
+ghost use Rattle.grammar.specs.Parts.{movedBy};
 ghost use Rattle.file.specs.Whole.{isDefined};
 ghost use Rattle.definitions.specs.Definitions.{definitionsOf, siteLine, siteDefinitions, siteFault, isNamed, sought, definitionOf};
+ghost use Rattle.definitions.specs.Places.{filePlace, sitePlace};
 use places::Fault;
 use places::Found;
 use text::Mark;
+use text::Part;
 
 // Is this a definition?
 fn is_defined(found: Found) -> bool
@@ -31,9 +36,22 @@ fn defines(line: &[u8], found: Found, key: &[u8]) -> bool
     false
 }
 
-// The value of a key in a file; empty if it is not defined there.
-pub fn file_definition<'a>(file: &'a [u8], key: &[u8]) -> &'a [u8]
-    ensures { λ r. ⌜ now r ≡ sought (now (key .entry)) (definitionsOf (now (file .entry))) ⌝ }
+// Where the value stands of a line that stands in a text.
+fn value_place(text: &[u8], at: usize, stop: usize) -> Part
+    requires { ⌜ at ≤ stop ⌝ }
+    requires { ⌜ stop ≤ length (now text) ⌝ }
+    ensures { λ r. ⌜ r ≡ movedBy at (valuePart (take (stop - at) (drop at (now (text .entry))))) ⌝ }
+{
+    let value = grammar::value_part(&text[at..stop]);
+    Part {
+        start: at + value.start,
+        stop: at + value.stop,
+    }
+}
+
+// Where the value of a key stands in a file; at the start, and empty, if it is not defined there.
+pub fn file_place(file: &[u8], key: &[u8]) -> Part
+    ensures { λ r. ⌜ r ≡ filePlace (now (file .entry)) (now (key .entry)) ⌝ }
 {
     let mut st = places::start();
     let mut at: usize = 0;
@@ -44,17 +62,27 @@ pub fn file_definition<'a>(file: &'a [u8], key: &[u8]) -> &'a [u8]
         let did = grammar::step(st, n, &file[at..stop]);
         let found = did.found;
         if file::is_fault(found) {
-            return &file[..0];
+            return Part { start: 0, stop: 0 };
         }
         if defines(&file[at..stop], found, key) {
-            return grammar::value(&file[at..stop]);
+            return value_place(file, at, stop);
         }
         n += 1;
         at = line.next;
         let next = did.next;
         st = next;
     }
-    &file[..0]
+    Part { start: 0, stop: 0 }
+}
+
+// The value of a key in a file; empty if it is not defined there.
+pub fn file_definition<'a>(file: &'a [u8], key: &[u8]) -> &'a [u8]
+    ensures { λ r. ⌜ now r ≡ sought (now (key .entry)) (definitionsOf (now (file .entry))) ⌝ }
+{
+    let place = file_place(file, key);
+    let start = place.start;
+    let stop = place.stop;
+    &file[start..stop]
 }
 
 // What a line of a site's definitions is.
@@ -77,9 +105,9 @@ fn site_line(line: &[u8]) -> Found
     }
 }
 
-// The value of a key in a site's definitions; empty if it is not defined there.
-pub fn site_definition<'a>(site: &'a [u8], key: &[u8]) -> &'a [u8]
-    ensures { λ r. ⌜ now r ≡ sought (now (key .entry)) (siteDefinitions (now (site .entry))) ⌝ }
+// Where the value of a key stands in a site's definitions; at the start, and empty, if it is not defined there.
+pub fn site_place(site: &[u8], key: &[u8]) -> Part
+    ensures { λ r. ⌜ r ≡ sitePlace (now (site .entry)) (now (key .entry)) ⌝ }
 {
     let mut at: usize = 0;
     while at < site.len() {
@@ -87,14 +115,24 @@ pub fn site_definition<'a>(site: &'a [u8], key: &[u8]) -> &'a [u8]
         let stop = line.stop;
         let found = site_line(&site[at..stop]);
         if file::is_fault(found) {
-            return &site[..0];
+            return Part { start: 0, stop: 0 };
         }
         if defines(&site[at..stop], found, key) {
-            return grammar::value(&site[at..stop]);
+            return value_place(site, at, stop);
         }
         at = line.next;
     }
-    &site[..0]
+    Part { start: 0, stop: 0 }
+}
+
+// The value of a key in a site's definitions; empty if it is not defined there.
+pub fn site_definition<'a>(site: &'a [u8], key: &[u8]) -> &'a [u8]
+    ensures { λ r. ⌜ now r ≡ sought (now (key .entry)) (siteDefinitions (now (site .entry))) ⌝ }
+{
+    let place = site_place(site, key);
+    let start = place.start;
+    let stop = place.stop;
+    &site[start..stop]
 }
 
 // Does this line, which is what was found, define a key that the rest defines again?

@@ -1,2 +1,3 @@
 -- The laws of a line where a file stands, and what several proofs use.
 pub mod Answers
+pub mod Parts

@@ -2,7 +2,7 @@
 ghost use mathlib.Core.Path.{_≡_};
 ghost use lib.IntN.{pos};
 ghost use mathlib.Core.List.{_∷_};
-ghost use Rattle.grammar.specs.Definitions.{valueOf};
+ghost use Rattle.grammar.specs.Definitions.{valueOf, valuePart};
 ghost use Rattle.grammar.specs.Steps.{gaveOf, definedOf, blankStep, definitionStep, rowStep, labelStep, listedOf, extensionStep, listedStep, extensionsStep, headStep, countedOf, countStep, valueRow, linesStep, plainStep, stepOf};
 ghost use Rattle.shape.specs.Stored.{itemOf};
 ghost use Rattle.text.specs.Fields.{fieldsOf};
@@ -20,6 +20,7 @@ use places::State;
 use places::Stepped;
 use shape::Item;
 use text::Mark;
+use text::Part;
 
 // The largest ID.
 const LARGEST_ID: u64 = 2147483647;
@@ -70,12 +71,19 @@ fn blank_step(st: State) -> Stepped
     }
 }
 
+// Where the value of a definition stands: behind the first field, without the blanks around it.
+pub fn value_part(line: &[u8]) -> Part
+    ensures { λ r. ⌜ r ≡ valuePart (now (line .entry)) ⌝ }
+{
+    let key = text::next_field(line, 0);
+    text::trim(line, key.stop)
+}
+
 // The value of a definition: what stands behind the first field, without the blanks around it.
 pub fn value(line: &[u8]) -> &[u8]
     ensures { λ r. ⌜ now r ≡ valueOf (now (line .entry)) ⌝ }
 {
-    let key = text::next_field(line, 0);
-    let part = text::trim(line, key.stop);
+    let part = value_part(line);
     let start = part.start;
     let stop = part.stop;
     &line[start..stop]

@@ -5,7 +5,7 @@ use mathlib.Core.Path.{_≡_, refl, sym, ap, _∙_}
 use native.Mathlib.Numerals.{add-one}
 use native.Mathlib.Omega.{arith}
 use borrow.Author.Tests.{eq-eqb, ne-eqb}
-use lib.IntN.{ℤ, pos}
+use lib.IntN.{ℤ}
 use lib.ListN.{length, take, drop, getD, set, replicate, length-set, drop-of-length-le}
 use lib.Seq.{take-all, take-suc-set, drop-cons}
 use Rattle.text.specs.Over.{clearedFrom}
@@ -18,8 +18,9 @@ use Rattle.shape_text.specs.declared.Written.{Written}
 use Rattle.answers.specs.Answers.{answerNumber, answerLine, rowsUsed, samplesUsed}
 use Rattle.answers.specs.declared.Answer.{Answer}
 use Rattle.reader.specs.Reading.{Reading, zeros}
-use Rattle.pulseq.specs.Exports.{told, readNumbers, ReadTold, editionOf, versionNumbers, expandNumbers, expandSamples, expandAnswer, ExpandTold, writeNumbers, writeOutput, writeAnswer, WriteTold}
-use Rattle.pulseq.specs.declared.Named.{Named}
+use Rattle.lookups.specs.Spots.{spotNumber, spotStart, spotLength, definitionSpot, storedSpot}
+use Rattle.lookups.specs.declared.Spot.{Spot}
+use Rattle.pulseq.specs.Exports.{told, readNumbers, ReadTold, editionOf, expandNumbers, expandSamples, expandAnswer, ExpandTold, writeNumbers, writeOutput, writeAnswer, WriteTold, spotNumbers, DefinitionTold, StoredTold}
 use Rattle.pulseq.specs.declared.Named.the-variants.{Known, Unknown}
 
 -- ---- a list that is cleared from its first element on
@@ -134,3 +135,16 @@ module _ {zs : List ℤ} {edition : ℕ} {l l′ answer answer′ : List ℕ} wh
   pub write-none : editionOf edition ≡ Unknown → l′ ≡ replicate (length l) 0 → answer′ ≡ told (length answer) (3 ∷ 0 ∷ []) → WriteTold zs edition l answer l′ answer′
   unfolding writeOutput writeAnswer
   write-none k z w = record { output = rw k z; numbers = rw k w }
+
+-- ---- what looking up tells
+spot-tells : (k : ℕ) {r s : Spot} {n start size : ℕ} → n ≡ spotNumber r → start ≡ spotStart r → size ≡ spotLength r → {l : List ℕ} → l ≡ told k (n ∷ start ∷ size ∷ []) → r ≡ s
+    → l ≡ told k (spotNumbers s)
+spot-tells k a b c w d = rw (a, b, c) at w ∙ ap (λ (x : Spot). told k (spotNumbers x)) d
+
+module _ {r : Spot} {n start size : ℕ} (a : n ≡ spotNumber r) (b : start ≡ spotStart r) (c : size ≡ spotLength r) {answer answer′ : List ℕ}
+    (w : answer′ ≡ told (length answer) (n ∷ start ∷ size ∷ [])) where
+  pub definition-tells : {file site key : List ℕ} → r ≡ definitionSpot file site key → DefinitionTold file site key answer answer′
+  definition-tells d = record { numbers = spot-tells (length answer) a b c w d }
+
+  pub stored-tells : {file site : List ℕ} {z id : ℤ} → r ≡ storedSpot file site z → z ≡ id → StoredTold file site id answer answer′
+  stored-tells {file} {site} d e = record { numbers = spot-tells (length answer) a b c w (d ∙ ap (λ (y : ℤ). storedSpot file site y) e) }

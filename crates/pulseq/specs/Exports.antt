@@ -14,6 +14,8 @@ use Rattle.shape_text.specs.declared.Written.{Written}
 use Rattle.answers.specs.Answers.{answerNumber, answerLine, rowsUsed, samplesUsed}
 use Rattle.answers.specs.declared.Answer.{Answer}
 use Rattle.reader.specs.Reading.{zeros, readOf, rowsOut, samplesOut}
+use Rattle.lookups.specs.Spots.{spotNumber, spotStart, spotLength, definitionSpot, storedSpot}
+use Rattle.lookups.specs.declared.Spot.{Spot}
 use Rattle.pulseq.specs.declared.Named.{Named}
 use Rattle.pulseq.specs.declared.Named.the-variants.{Known, Unknown}
 
@@ -68,3 +70,13 @@ writeAnswer Unknown zs room = versionNumbers
 pub record WriteTold (zs : List ℤ) (edition : ℕ) (l : List ℕ) (answer : List ℕ) (l′ : List ℕ) (answer′ : List ℕ) : Type 0 where
   pub output : l′ ≡ writeOutput (editionOf edition) zs (length l)
   pub numbers : answer′ ≡ told (length answer) (writeAnswer (editionOf edition) zs (length l))
+
+-- ---- Looking up: 1 for the file's text or 2 for the site's, where the part starts, and how long it is; zeros if there is none
+abbrev pub spotNumbers : Spot → List ℕ
+spotNumbers s = spotNumber s ∷ spotStart s ∷ spotLength s ∷ []
+
+pub record DefinitionTold (file site key answer answer′ : List ℕ) : Type 0 where
+  pub numbers : answer′ ≡ told (length answer) (spotNumbers (definitionSpot file site key))
+
+pub record StoredTold (file site : List ℕ) (id : ℤ) (answer answer′ : List ℕ) : Type 0 where
+  pub numbers : answer′ ≡ told (length answer) (spotNumbers (storedSpot file site id))

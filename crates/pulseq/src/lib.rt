@@ -3,7 +3,7 @@
 ghost use mathlib.Core.Path.{_≡_};
 ghost use lib.ListN.{length, getD, replicate};
 ghost use Rattle.reader.specs.Reading.{zeros};
-ghost use Rattle.pulseq.specs.Exports.{told, editionOf, ReadTold, ExpandTold, WriteTold};
+ghost use Rattle.pulseq.specs.Exports.{told, editionOf, ReadTold, ExpandTold, WriteTold, DefinitionTold, StoredTold};
 use shape::Edition;
 
 // The edition that a number names: 103 is 1.3, and 104 is 1.4.
@@ -129,4 +129,24 @@ pub extern "C" fn pulseq_write(samples: &[i64], edition: u64, out: &mut [u8], an
             tell(answer, &[3, 0]);
         }
     }
+}
+
+// Finds where the value of a key stands in the file or the site's definitions, and tells which of the two, the place and the length.
+#[no_mangle]
+pub extern "C" fn pulseq_definition(file: &[u8], site: &[u8], key: &[u8], answer: &mut [u64])
+    ensures { λ r. ⌜ DefinitionTold (now (file .entry)) (now (site .entry)) (now (key .entry)) (now (answer .entry)) (now (answer .exit)) ⌝ }
+{
+    let spot = lookups::definition_spot(file, site, key);
+    let numbers = [spot.number(), spot.start() as u64, spot.length() as u64];
+    tell(answer, &numbers);
+}
+
+// Finds where the stored lines of a shape stand in the file, and tells 1, the place and the length, or zeros.
+#[no_mangle]
+pub extern "C" fn pulseq_stored(file: &[u8], site: &[u8], id: i64, answer: &mut [u64])
+    ensures { λ r. ⌜ StoredTold (now (file .entry)) (now (site .entry)) id (now (answer .entry)) (now (answer .exit)) ⌝ }
+{
+    let spot = lookups::stored_spot(file, site, id);
+    let numbers = [spot.number(), spot.start() as u64, spot.length() as u64];
+    tell(answer, &numbers);
 }

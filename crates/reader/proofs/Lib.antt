@@ -1,4 +1,3 @@
 -- Laws of reading.
 pub mod Judging
-pub mod Looking
 pub mod Unique

@@ -1,4 +1,3 @@
 -- What must be believed of reading a whole file, in the paper's order; then what the inner functions answer.
 pub mod Reading
-pub mod Looking
 pub mod Inside

@@ -1,11 +1,10 @@
 // Reading a file with a site's definitions, in one call for every byte string: an acceptance with its tables, or a numbered refusal with its line and
-// tables of zeros. And what is looked up in a file: a definition, and the stored lines of a shape.
+// tables of zeros.
 ghost use mathlib.Core.Path.{_≡_};
 ghost use lib.ListN.{length};
 ghost use Rattle.file.specs.Rows.{scannedOf};
 ghost use Rattle.answers.specs.declared.Answer.the-variants.{Accepted};
 ghost use Rattle.reader.specs.Reading.{zeros, rulesAsked, Reading};
-ghost use Rattle.reader.specs.Looking.{isAtFault, isFaulty, lookedUp, storedUp};
 ghost use Rattle.reader.specs.Inside.{RowsJudged, TextsJudged, FileJudged, AllJudged};
 use answers::Answer;
 use answers::Refusal;
@@ -145,51 +144,4 @@ pub fn read<'a>(file: &'a [u8], site: &'a [u8], rows: &mut [i64], samples: &mut 
         clear(samples);
     }
     answer
-}
-
-// Is a line of a file at fault?
-fn has_fault(file: &[u8]) -> bool
-    ensures { λ r. ⌜ r ≡ isAtFault (scannedOf (now (file .entry))) ⌝ }
-{
-    let mut none = [0i64; 1];
-    match file::scan(file, &mut none) {
-        Scanned::File { .. } => false,
-        Scanned::Fault(_, _) => true,
-    }
-}
-
-// Is there a fault for which nothing is looked up: 1 to 5, 8 or 9?
-fn is_faulty(file: &[u8], site: &[u8]) -> bool
-    ensures { λ r. ⌜ r ≡ isFaulty (now (file .entry)) (now (site .entry)) ⌝ }
-{
-    if questions::is_big(file, site) {
-        return true;
-    }
-    if has_fault(file) {
-        return true;
-    }
-    if definitions::site_fault(site) {
-        return true;
-    }
-    repeats::duplicate_line(file) != 0
-}
-
-// The value of a key as a part of the file's text or of the site's: the file's if both define it; empty if neither does, or at a fault.
-pub fn definition<'a>(file: &'a [u8], site: &'a [u8], key: &[u8]) -> &'a [u8]
-    ensures { λ r. ⌜ now r ≡ lookedUp (now (file .entry)) (now (site .entry)) (now (key .entry)) ⌝ }
-{
-    if is_faulty(file, site) {
-        return &file[..0];
-    }
-    definitions::definition(file, site, key)
-}
-
-// The stored lines of a shape as a part of the file's text; empty if there is no such shape, or at a fault.
-pub fn stored_lines<'a>(file: &'a [u8], site: &'a [u8], id: i64) -> &'a [u8]
-    ensures { λ r. ⌜ now r ≡ storedUp (now (file .entry)) (now (site .entry)) id ⌝ }
-{
-    if is_faulty(file, site) {
-        return &file[..0];
-    }
-    stored::stored_lines(file, id)
 }

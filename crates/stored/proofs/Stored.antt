@@ -1,5 +1,5 @@
 -- The stored lines of a shape, line by line. Assumes nothing.
-use Prim.Native.Nat.{ℕ, _+_, _-_, _≤_}
+use Prim.Native.Nat.{ℕ, suc, _+_, _-_, _≤_}
 use mathlib.Core.Bool.{Bool, true, false, cond}
 use mathlib.Core.List.{List, [], _∷_, _++_, append-assoc}
 use mathlib.Core.Path.{_≡_, refl, sym, ap, _∙_}
@@ -12,15 +12,19 @@ use lib.Seq.{take-append-seam}
 use Rattle.text.specs.Lines.{wholeLinesOf, bareOf, onto}
 use Rattle.text.specs.Marks.{markOf}
 use Rattle.text.specs.declared.Line.{Line}
+use Rattle.text.specs.declared.Part.{Part}
 use Rattle.text.proofs.Cut.{LineAt, WholeAt}
 use Rattle.signed.specs.Signed.{sameZ}
 use Rattle.places.specs.Places.{fresh}
+use Rattle.grammar.specs.Parts.{noPart}
 use Rattle.grammar.specs.Steps.{stepOf}
+use Rattle.grammar.proofs.Parts.{Holds, none-holds, whole-ends, by-lines}
 use Rattle.places.specs.declared.Found.{Found}
 use Rattle.places.specs.declared.State.{State}
 use Rattle.places.specs.declared.Stepped.{Stepped}
 use Rattle.file.specs.Whole.{isFault, isRow, rowCount}
 use Rattle.stored.specs.Shapes.{endsShape, valuesText, isShape, storedFrom, storedOf}
+use Rattle.stored.specs.Places.{valuesPart, storedPlaceFrom, storedPlace}
 use Rattle.file.proofs.Laying.{row-one, row-none, count-most}
 use Rattle.file.proofs.Walking.{Within, within-start, within-turn}
 
@@ -110,35 +114,56 @@ stored-none file at h = rw (drop-of-length-le file h)
 -- ---- the loop to the shape
 pub record ShapeWalk (file : List ℕ) (id : ℤ) (st : State) (at n : ℕ) : Type 0 where
   pub within : Within file at n
-  pub same : storedFrom id st n (wholeLinesOf (drop at file)) ≡ storedOf file id
+  pub same : storedPlaceFrom id st n at (wholeLinesOf (drop at file)) ≡ storedPlace file id
 
 pub shape-start : (file : List ℕ) (id : ℤ) (st : State) → st ≡ fresh → ShapeWalk file id st 0 1
-unfolding storedOf
+unfolding storedPlace
 shape-start file id st e = record { within = within-start file; same = rw e }
 
 module _ (file : List ℕ) (id : ℤ) (st : State) (at n : ℕ) (k : ShapeWalk file id st at n) where
   module _ (r : Line) (l : LineAt file at r) (w : WholeAt file at r) (s : Stepped) (p : s ≡ stepOf st n (take (r .stop - at) (drop at file))) where
-    pub shape-fault : isFault (s .found) ≡ true → [] ≡ storedOf file id
-    unfolding storedFrom
+    pub shape-fault : isFault (s .found) ≡ true → noPart ≡ storedPlace file id
+    unfolding storedPlaceFrom
     shape-fault e = rw (w .whole, w .bare, ← p, e) at (k .same)
 
     module _ (e : isFault (s .found) ≡ false) where
-      pub shape-hit : isShape id s ≡ true → valuesText (wholeLinesOf (drop (r .next) file)) ≡ storedOf file id
-      unfolding storedFrom
-      shape-hit f = rw (w .whole, w .bare, ← p, e, f) at (k .same)
+      pub shape-hit : isShape id s ≡ true → (stop : ℕ) → stop ≡ r .next + storedLen (drop (r .next) file) → record { start = r .next; stop = stop } ≡ storedPlace file id
+      unfolding storedPlaceFrom valuesPart
+      shape-hit f stop q = rw q (rw (w .whole, w .bare, ← p, e, f, whole-ends l) at (k .same))
 
       pub shape-turn : isShape id s ≡ false → ShapeWalk file id (s .next) (r .next) (n + 1)
-      unfolding storedFrom
-      shape-turn f = record { within = within-turn (k .within) l; same = rw (add-one n) (rw (w .whole, w .bare, ← p, e, f) at (k .same)) }
+      unfolding storedPlaceFrom
+      shape-turn f = record { within = within-turn (k .within) l; same = rw (add-one n) (rw (w .whole, w .bare, ← p, e, f, whole-ends l) at (k .same)) }
 
-  pub shape-end : length file ≤ at → [] ≡ storedOf file id
-  unfolding storedFrom wholeLinesOf
+  pub shape-end : length file ≤ at → noPart ≡ storedPlace file id
+  unfolding storedPlaceFrom wholeLinesOf
   shape-end h = rw (drop-of-length-le file h) at (k .same)
 
--- ---- the part that is handed back
-module _ (file : List ℕ) (from : ℕ) where
-  pub behind-le : from ≤ length file → (stop : ℕ) → stop ≡ from + storedLen (drop from file) → stop ≤ length file
-  behind-le h stop e = let a = stored-le (drop from file) in let b = length-drop from file in omega arith
+-- ---- the bytes there are the stored lines
+values-hold : (file : List ℕ) (from : ℕ) → from ≤ length file → Holds file (valuesPart from (wholeLinesOf (drop from file))) (valuesText (wholeLinesOf (drop from file)))
+unfolding valuesPart
+values-hold file from h =
+    let a = stored-le (drop from file) in
+    let b = length-drop from file in
+    let k : from + storedLen (drop from file) - from ≡ storedLen (drop from file) = omega arith in
+    record { ordered = omega arith; within = omega arith; there = rw k (stored-prefix (drop from file)) }
 
-  pub behind-text : (stop : ℕ) → stop ≡ from + storedLen (drop from file) → take (stop - from) (drop from file) ≡ valuesText (wholeLinesOf (drop from file))
-  behind-text stop e = let k : stop - from ≡ storedLen (drop from file) = omega arith in rw k (stored-prefix (drop from file))
+stored-from : (file : List ℕ) (id : ℤ) (at : ℕ) (st : State) (n : ℕ)
+    → Holds file (storedPlaceFrom id st n at (wholeLinesOf (drop at file))) (storedFrom id st n (wholeLinesOf (drop at file)))
+unfolding storedPlaceFrom storedFrom wholeLinesOf
+stored-from file id =
+    by-lines file
+    (λ at. (st : State) (n : ℕ) → Holds file (storedPlaceFrom id st n at (wholeLinesOf (drop at file))) (storedFrom id st n (wholeLinesOf (drop at file))))
+    (λ at h st n. rw (drop-of-length-le file h) (none-holds file))
+    (λ at r l w next st n. let s : Stepped = stepOf st n (take (r .stop - at) (drop at file)) in
+    rw (w .whole, w .bare, whole-ends l) (go r (l .inside) (isFault (s .found)) (isShape id s) (next (s .next) (suc n))))
+  where
+    go : (r : Line) → r .next ≤ length file → (f s : Bool) {p : Part} {t : List ℕ} → Holds file p t
+        → Holds file (cond f noPart (cond s (valuesPart (r .next) (wholeLinesOf (drop (r .next) file))) p)) (cond f [] (cond s (valuesText (wholeLinesOf (drop (r .next) file))) t))
+    go r i true s h = none-holds file
+    go r i false true h = values-hold file (r .next) i
+    go r i false false h = h
+
+pub stored-holds : (file : List ℕ) (id : ℤ) → Holds file (storedPlace file id) (storedOf file id)
+unfolding storedPlace storedOf
+stored-holds file id = stored-from file id 0 fresh 1

@@ -1,2 +1,3 @@
 -- What must be believed of the stored lines of a shape.
 pub mod Shapes
+pub mod Places

@@ -1,12 +1,14 @@
-// The stored lines of the shapes of a file, as parts of its text.
+// The stored lines of the shapes of a file, as parts of its text, and where they stand.
 ghost use mathlib.Core.Path.{_≡_};
 ghost use Prim.Native.Nat.{_+_};
 ghost use lib.ListN.{length, drop};
 ghost use Rattle.text.specs.Lines.{wholeLinesOf};
 ghost use Rattle.text.specs.Marks.{markOf};
 ghost use Rattle.stored.specs.Shapes.{endsShape, valuesText, isShape, storedOf};
+ghost use Rattle.stored.specs.Places.{storedPlace};
 use places::Stepped;
 use text::Mark;
+use text::Part;
 
 // Does this line end a shape's stored lines?
 fn ends_shape(line: &[u8]) -> bool
@@ -52,9 +54,9 @@ fn is_shape(did: Stepped, id: i64) -> bool
     signed::same(number, id)
 }
 
-// The stored lines of the first shape with this ID; empty if there is none.
-pub fn stored_lines(file: &[u8], id: i64) -> &[u8]
-    ensures { λ r. ⌜ now r ≡ storedOf (now (file .entry)) id ⌝ }
+// Where the stored lines of the first shape with this ID stand; at the start, and empty, if there is none.
+pub fn stored_place(file: &[u8], id: i64) -> Part
+    ensures { λ r. ⌜ r ≡ storedPlace (now (file .entry)) id ⌝ }
 {
     let mut st = places::start();
     let mut at: usize = 0;
@@ -66,16 +68,28 @@ pub fn stored_lines(file: &[u8], id: i64) -> &[u8]
         let did = grammar::step(st, n, &file[at..stop]);
         let found = did.found;
         if file::is_fault(found) {
-            return &file[..0];
+            return Part { start: 0, stop: 0 };
         }
         if is_shape(did, id) {
-            let end = stored_end(file, behind);
-            return &file[behind..end];
+            return Part {
+                start: behind,
+                stop: stored_end(file, behind),
+            };
         }
         n += 1;
         at = behind;
         let next = did.next;
         st = next;
     }
-    &file[..0]
+    Part { start: 0, stop: 0 }
+}
+
+// The stored lines of the first shape with this ID; empty if there is none.
+pub fn stored_lines(file: &[u8], id: i64) -> &[u8]
+    ensures { λ r. ⌜ now r ≡ storedOf (now (file .entry)) id ⌝ }
+{
+    let place = stored_place(file, id);
+    let start = place.start;
+    let stop = place.stop;
+    &file[start..stop]
 }

@@ -1,4 +1,4 @@
--- `pulseq::clear_table` meets its contract. Assumes nothing.
+-- `pulseq::clear_table` meets its contract. The loop clears (`Clearing`). Assumes nothing.
 use borrow.Author.Needs.{needs}
 use native.Mathlib.Omega.{arith}
 use Rattle.pulseq.proofs.Telling.{cleared-all}

@@ -1,4 +1,4 @@
--- `pulseq::edition_of` meets its contract. Assumes nothing.
+-- `pulseq::edition_of` meets its contract. Each return is one case of `editionOf`. Assumes nothing.
 use Rattle.pulseq.proofs.Telling.{named-13, named-14, named-none}
 use Rattle.pulseq.proofs.edition_of.Statement.{statement}
 use Rattle.pulseq.proofs.edition_of.Tie as tie

@@ -1,4 +1,4 @@
--- `pulseq::number_at` meets its contract. Assumes nothing.
+-- `pulseq::number_at` meets its contract. Behind the last number there is 0 (`none-behind`). Assumes nothing.
 use denote.Ref.{now}
 use Rattle.pulseq.proofs.Telling.{none-behind}
 use borrow.Author.Needs.{needs}

@@ -1,4 +1,4 @@
--- `pulseq::pulseq_expand` meets its contract. Assumes nothing.
+-- `pulseq::pulseq_expand` meets its contract. In an edition all comes from the contract of expanding (`expand-tells`); in none the samples are cleared (`expand-none`). Assumes nothing.
 use Rattle.pulseq.proofs.Telling.{expand-tells, expand-none}
 use mathlib.Core.Path.{sym, _∙_}
 use borrow.Author.Needs.{needs}

@@ -1,4 +1,4 @@
--- `pulseq::pulseq_read` meets its contract. Assumes nothing.
+-- `pulseq::pulseq_read` meets its contract. All comes from the contract of reading and from what is told of its answer (`read-tells`). Assumes nothing.
 use Rattle.pulseq.proofs.Telling.{read-tells}
 use borrow.Author.Needs.{needs}
 use Rattle.pulseq.proofs.pulseq_read.Statement.{statement}

@@ -1,4 +1,4 @@
--- `pulseq::pulseq_write` meets its contract. Assumes nothing.
+-- `pulseq::pulseq_write` meets its contract. In an edition all comes from the contract of writing (`write-tells`); in none the output is cleared (`write-none`). Assumes nothing.
 use Rattle.pulseq.proofs.Telling.{write-tells, write-none}
 use mathlib.Core.Path.{sym, _∙_}
 use borrow.Author.Needs.{needs}

@@ -1,4 +1,4 @@
--- `pulseq::tell` meets its contract. Assumes nothing.
+-- `pulseq::tell` meets its contract. The loop lays one number at a turn (`Telling`). Assumes nothing.
 use borrow.Author.Needs.{needs}
 use native.Mathlib.Omega.{arith}
 use Rattle.pulseq.proofs.Telling.{Telling, telling-start, telling-turn, telling-end}

@@ -1,9 +1,9 @@
--- `reader::definition` meets its contract. Assumes nothing.
-use Rattle.reader.proofs.Looking.{nothing-looked, looked}
+-- `lookups::definition` meets its contract. Assumes nothing.
+use Rattle.lookups.proofs.Looking.{nothing-looked, looked}
 use mathlib.Core.Path.{_∙_}
 use borrow.Author.Needs.{needs}
-use Rattle.reader.proofs.definition.Statement.{statement}
-use Rattle.reader.proofs.definition.Tie as tie
+use Rattle.lookups.proofs.definition.Statement.{statement}
+use Rattle.lookups.proofs.definition.Tie as tie
 
 is-faulty-requires : tie.Need-is-faulty-requires
 is-faulty-requires c κs = search needs

@@ -1,10 +1,10 @@
--- `reader::stored_lines` meets its contract. Assumes nothing.
+-- `lookups::stored_lines` meets its contract. Assumes nothing.
 use Rattle.signed.proofs.Machine.{rd-is}
-use Rattle.reader.proofs.Looking.{nothing-stored, stored-looked}
+use Rattle.lookups.proofs.Looking.{nothing-stored, stored-looked}
 use mathlib.Core.Path.{_∙_}
 use borrow.Author.Needs.{needs}
-use Rattle.reader.proofs.stored_lines.Statement.{statement}
-use Rattle.reader.proofs.stored_lines.Tie as tie
+use Rattle.lookups.proofs.stored_lines.Statement.{statement}
+use Rattle.lookups.proofs.stored_lines.Tie as tie
 
 is-faulty-requires : tie.Need-is-faulty-requires
 is-faulty-requires c κs = search needs

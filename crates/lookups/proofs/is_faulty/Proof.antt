@@ -1,8 +1,8 @@
--- `reader::is_faulty` meets its contract. Assumes nothing.
-use Rattle.reader.proofs.Looking.{faulty-big, faulty-line, faulty-site, faulty-again}
+-- `lookups::is_faulty` meets its contract. Assumes nothing.
+use Rattle.lookups.proofs.Looking.{faulty-big, faulty-line, faulty-site, faulty-again}
 use borrow.Author.Needs.{needs}
-use Rattle.reader.proofs.is_faulty.Statement.{statement}
-use Rattle.reader.proofs.is_faulty.Tie as tie
+use Rattle.lookups.proofs.is_faulty.Statement.{statement}
+use Rattle.lookups.proofs.is_faulty.Tie as tie
 
 is-big-requires : tie.Need-is-big-requires
 is-big-requires c κs = search needs

@@ -14,7 +14,7 @@ use Rattle.definitions.specs.Definitions.{siteFault, definitionOf}
 use Rattle.stored.specs.Shapes.{storedOf}
 use Rattle.repeats.specs.Repeats.{duplicateOf}
 use Rattle.questions.specs.Asked.{isBig}
-use Rattle.reader.specs.Looking.{isAtFault, isFaulty, lookedUp, storedUp}
+use Rattle.lookups.specs.Looking.{isAtFault, isFaulty, lookedUp, storedUp}
 
 -- ---- whether a line is at fault
 module _ (file : List ℕ) (s : Scanned) (p : s ≡ scannedOf file) where

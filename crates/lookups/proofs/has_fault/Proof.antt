@@ -1,8 +1,8 @@
--- `reader::has_fault` meets its contract. Assumes nothing.
-use Rattle.reader.proofs.Looking.{no-fault, a-fault}
+-- `lookups::has_fault` meets its contract. Assumes nothing.
+use Rattle.lookups.proofs.Looking.{no-fault, a-fault}
 use borrow.Author.Needs.{needs}
-use Rattle.reader.proofs.has_fault.Statement.{statement}
-use Rattle.reader.proofs.has_fault.Tie as tie
+use Rattle.lookups.proofs.has_fault.Statement.{statement}
+use Rattle.lookups.proofs.has_fault.Tie as tie
 
 slice-aggregate-scan : tie.Need-slice-aggregate-scan
 slice-aggregate-scan c = search needs

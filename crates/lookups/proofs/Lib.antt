@@ -1,0 +1,5 @@
+-- Laws of what is looked up.
+pub mod Looking
+pub mod Spots
+pub mod Unique
+pub mod Examples
