@@ -6,13 +6,13 @@ ghost use Rattle.reader.specs.Reading.{zeros};
 ghost use Rattle.pulseq.specs.Exports.{told, editionOf, ReadTold, ExpandTold, WriteTold, DefinitionTold, StoredTold};
 use shape::Edition;
 
-// The edition that a number names: 103 is 1.3, and 104 is 1.4.
+// What a number names: an edition, or none.
 enum Named {
     Known(Edition),
     Unknown,
 }
 
-// The edition that a number names.
+// The edition that a number names: 103 is 1.3, and 104 is 1.4.
 fn edition_of(edition: u64) -> Named
     ensures { λ r. ⌜ r ≡ editionOf edition ⌝ }
 {
@@ -80,12 +80,11 @@ pub extern "C" fn pulseq_read<'a>(
     ensures { λ r. ⌜ ReadTold (now (file .entry)) (now (site .entry)) (now (rows .entry)) (now (samples .entry)) (now (answer .entry)) (now (rows .exit)) (now (samples .exit)) (now (answer .exit)) ⌝ }
 {
     let read = reader::read(file, site, rows, samples);
-    let numbers = [
-        read.number(),
-        read.line() as u64,
-        read.rows() as u64,
-        read.samples() as u64,
-    ];
+    let number = read.number();
+    let line = read.line() as u64;
+    let used = read.rows() as u64;
+    let count = read.samples() as u64;
+    let numbers = [number, line, used, count];
     tell(answer, &numbers);
 }
 
@@ -103,12 +102,15 @@ pub extern "C" fn pulseq_expand(
     match edition_of(edition) {
         Named::Known(known) => {
             let expanded = shape::expand(stored, num as usize, known, samples);
-            let numbers = [expanded.number(), expanded.used() as u64];
+            let number = expanded.number();
+            let used = expanded.used() as u64;
+            let numbers = [number, used];
             tell(answer, &numbers);
         }
         Named::Unknown => {
             clear_table(samples);
-            tell(answer, &[3, 0]);
+            let version = [3, 0];
+            tell(answer, &version);
         }
     }
 }
@@ -121,12 +123,15 @@ pub extern "C" fn pulseq_write(samples: &[i64], edition: u64, out: &mut [u8], an
     match edition_of(edition) {
         Named::Known(known) => {
             let written = shape_text::write(samples, known, out);
-            let numbers = [written.number(), written.size() as u64];
+            let number = written.number();
+            let size = written.size() as u64;
+            let numbers = [number, size];
             tell(answer, &numbers);
         }
         Named::Unknown => {
             clear_output(out);
-            tell(answer, &[3, 0]);
+            let refused = [3, 0];
+            tell(answer, &refused);
         }
     }
 }
@@ -137,7 +142,10 @@ pub extern "C" fn pulseq_definition(file: &[u8], site: &[u8], key: &[u8], answer
     ensures { λ r. ⌜ DefinitionTold (now (file .entry)) (now (site .entry)) (now (key .entry)) (now (answer .entry)) (now (answer .exit)) ⌝ }
 {
     let spot = lookups::definition_spot(file, site, key);
-    let numbers = [spot.number(), spot.start() as u64, spot.length() as u64];
+    let source = spot.number();
+    let start = spot.start() as u64;
+    let size = spot.length() as u64;
+    let numbers = [source, start, size];
     tell(answer, &numbers);
 }
 
@@ -147,6 +155,9 @@ pub extern "C" fn pulseq_stored(file: &[u8], site: &[u8], id: i64, answer: &mut 
     ensures { λ r. ⌜ StoredTold (now (file .entry)) (now (site .entry)) id (now (answer .entry)) (now (answer .exit)) ⌝ }
 {
     let spot = lookups::stored_spot(file, site, id);
-    let numbers = [spot.number(), spot.start() as u64, spot.length() as u64];
+    let found = spot.number();
+    let start = spot.start() as u64;
+    let size = spot.length() as u64;
+    let numbers = [found, start, size];
     tell(answer, &numbers);
 }
