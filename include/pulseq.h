@@ -132,8 +132,8 @@ void pulseq_definition(const uint8_t *file, size_t file_len, const uint8_t *site
  * Finds the stored lines of the shape with an ID: from the line behind num_samples up to the line
  * that ends them.
  *
- * answer: 1 if there is such a shape, else 0; the place of the first byte in the file's text, from
- * 0; the length. With 0, both are 0. A shape with no stored line has length 0.
+ * answer: 1 if there is such a shape with a stored line, else 0; the place of the first byte in the
+ * file's text, from 0; the length. With 0, both are 0.
  *
  * There is none, whatever the ID, under the faults that pulseq_definition names.
  */

@@ -81,13 +81,16 @@ pub fn definition(file: &[u8], site: &[u8], key: &[u8]) -> Part {
     }
 }
 
-/// The stored lines of a shape.
+/// The stored lines of a shape; nothing where it has none.
 pub fn stored(file: &[u8], site: &[u8], id: i64) -> Part {
     let Some(sheet) = searchable(file, site) else {
         return Part::None;
     };
     let found = sheet.shapes.iter().find(|shape| shape.id == id);
-    found.map_or(Part::None, |shape| Part::File(shape.from, shape.to - shape.from))
+    match found {
+        Some(shape) if shape.from < shape.to => Part::File(shape.from, shape.to - shape.from),
+        _ => Part::None,
+    }
 }
 
 /// The four rasters of a file that is read: 1.4 from the file alone, 1.3 else from the site.

@@ -1,0 +1,48 @@
+-- `pulseq::pulseq_stored` meets its contract. The spot is told (`stored-tells`). Assumes nothing.
+use Rattle.pulseq.proofs.Telling.{stored-tells}
+use Rattle.signed.proofs.Machine.{rd-is}
+use borrow.Author.Needs.{needs}
+use Rattle.pulseq.proofs.pulseq_stored.Statement.{statement}
+use Rattle.pulseq.proofs.pulseq_stored.Tie as tie
+
+stored-spot-requires : tie.Need-stored-spot-requires
+stored-spot-requires c κs = search needs
+
+number-requires : tie.Need-number-requires
+number-requires c κs = search needs
+
+start-requires : tie.Need-start-requires
+start-requires c κs = search needs
+
+length-requires : tie.Need-length-requires
+length-requires c κs = search needs
+
+slice-aggregate-tell : tie.Need-slice-aggregate-tell
+slice-aggregate-tell c = search needs
+
+tell-requires : tie.Need-tell-requires
+tell-requires c κs = search needs
+
+same-length : tie.Need-same-length
+same-length c = search needs
+
+returns : tie.Need-returns
+returns c = let t = c .before .before in
+    let l = t .before .before .before in
+    let s = l .before in
+    let n = s .before in
+    let q = n .before .before .before .before .before in
+    stored-tells (n .number .ensures) (s .start .ensures) (l .length .ensures) (t .tell .ensures) (n .before .stored-spot .ensures) (rd-is (q .fits .id))
+
+pub pulseq-stored-spec : {M : Type 1} → statement M
+pulseq-stored-spec =
+    tie.close
+    (tie.spec
+    stored-spot-requires
+    number-requires
+    start-requires
+    length-requires
+    slice-aggregate-tell
+    tell-requires
+    same-length
+    returns)

@@ -1,0 +1,2 @@
+-- What must be believed of the library's functions.
+pub mod Exports
