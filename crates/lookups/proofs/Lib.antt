@@ -2,4 +2,5 @@
 pub mod Looking
 pub mod Spots
 pub mod Unique
+pub mod Empty
 pub mod Examples

@@ -1,20 +1,18 @@
 -- When nothing is looked up. Assumes nothing.
 use Prim.Native.Nat.{ℕ}
-use mathlib.Core.Bool.{Bool, true, false, not}
-use mathlib.Core.List.{List, []}
+use mathlib.Core.Bool.{Bool, true, false, cond, not}
+use mathlib.Core.List.{List}
 use mathlib.Core.Path.{_≡_}
 use lib.Dec.{eqb}
-use lib.IntN.{ℤ}
 use Rattle.shape.specs.declared.Edition.{Edition}
 use Rattle.places.specs.declared.Fault.{Fault}
 use Rattle.file.specs.Rows.{scannedOf}
 use Rattle.file.specs.declared.Scanned.{Scanned}
 use Rattle.file.specs.declared.Scanned.the-variants.{File, Fault as ScannedFault}
-use Rattle.definitions.specs.Definitions.{siteFault, definitionOf}
-use Rattle.stored.specs.Shapes.{storedOf}
+use Rattle.definitions.specs.Definitions.{siteFault}
 use Rattle.repeats.specs.Repeats.{duplicateOf}
 use Rattle.questions.specs.Asked.{isBig}
-use Rattle.lookups.specs.Looking.{isAtFault, isFaulty, lookedUp, storedUp}
+use Rattle.lookups.specs.Looking.{isAtFault, isFaulty}
 
 -- ---- whether a line is at fault
 module _ (file : List ℕ) (s : Scanned) (p : s ≡ scannedOf file) where
@@ -46,22 +44,10 @@ module _ (file site : List ℕ) (b : Bool) (p : b ≡ isBig file site) where
       unfolding isFaulty
       faulty-again j again k = rw (← p, h, ← q, i, ← t, j, k)
 
--- ---- what is handed back
-module _ (file site : List ℕ) (b : Bool) (p : b ≡ isFaulty file site) where
-  module _ (key : List ℕ) where
-    pub nothing-looked : b ≡ true → [] ≡ lookedUp file site key
-    unfolding lookedUp
-    nothing-looked h = rw (← p, h)
+-- ---- what is answered: one thing at a fault, else another
+module _ (file site : List ℕ) (b : Bool) (p : b ≡ isFaulty file site) {A : Type 0} (none found : A) where
+  pub faulty-none : b ≡ true → none ≡ cond (isFaulty file site) none found
+  faulty-none h = rw (← p, h)
 
-    pub looked : b ≡ false → definitionOf file site key ≡ lookedUp file site key
-    unfolding lookedUp
-    looked h = rw (← p, h)
-
-  module _ (id : ℤ) where
-    pub nothing-stored : b ≡ true → [] ≡ storedUp file site id
-    unfolding storedUp
-    nothing-stored h = rw (← p, h)
-
-    pub stored-looked : b ≡ false → storedOf file id ≡ storedUp file site id
-    unfolding storedUp
-    stored-looked h = rw (← p, h)
+  pub sound-found : b ≡ false → found ≡ cond (isFaulty file site) none found
+  sound-found h = rw (← p, h)

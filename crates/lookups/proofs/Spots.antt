@@ -34,28 +34,8 @@ module _ (source : Source) (p : Part) where
   unfolding spotIn
   spot-none h = rw (le-ltb (p .start) (p .stop) h)
 
--- ---- what is answered
-module _ (file site : List ℕ) (b : Bool) (e : b ≡ isFaulty file site) where
-  module _ (key : List ℕ) where
-    pub definition-nowhere : b ≡ true → Nowhere ≡ definitionSpot file site key
-    unfolding definitionSpot
-    definition-nowhere h = rw (← e, h)
-
-    pub definition-somewhere : b ≡ false → eitherSpot (spotIn File (filePlace file key)) (spotIn Site (sitePlace site key)) ≡ definitionSpot file site key
-    unfolding definitionSpot
-    definition-somewhere h = rw (← e, h)
-
-  module _ (id : ℤ) where
-    pub stored-nowhere : b ≡ true → Nowhere ≡ storedSpot file site id
-    unfolding storedSpot
-    stored-nowhere h = rw (← e, h)
-
-    pub stored-somewhere : b ≡ false → spotIn File (storedPlace file id) ≡ storedSpot file site id
-    unfolding storedSpot
-    stored-somewhere h = rw (← e, h)
-
 -- ---- a spot within its text, where bytes stand; nowhere exactly if there are none
-abbrev spotRoom : List ℕ → List ℕ → Spot → ℕ
+abbrev pub spotRoom : List ℕ → List ℕ → Spot → ℕ
 spotRoom file site Nowhere = 0
 spotRoom file site (In source start n) = length (sourceText file site source)
 

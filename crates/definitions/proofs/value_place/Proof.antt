@@ -33,7 +33,7 @@ add-t6 c = record { fits = omega (arith, there (c .before) .ordered, there (c .b
 
 add-t9 : tie.Need-add-t9
 unfolding movedBy
-add-t9 c = record { fits = omega (arith, there (c .before .before) .within, c .before .before .before .before .before .good .0 .0) }
+add-t9 c = record { fits = omega (arith, there (c .before .before) .ordered, there (c .before .before) .within, c .before .before .before .before .before .good .0 .0) }
 
 returns : tie.Need-returns
 unfolding movedBy

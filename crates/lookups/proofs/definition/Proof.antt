@@ -1,6 +1,7 @@
 -- `lookups::definition` meets its contract. Assumes nothing.
-use Rattle.lookups.proofs.Looking.{nothing-looked, looked}
 use mathlib.Core.Path.{_∙_}
+use Rattle.lookups.specs.Looking.{lookedUp}
+use Rattle.lookups.proofs.Looking.{faulty-none, sound-found}
 use borrow.Author.Needs.{needs}
 use Rattle.lookups.proofs.definition.Statement.{statement}
 use Rattle.lookups.proofs.definition.Tie as tie
@@ -12,13 +13,15 @@ slice-aggregate-result : tie.Need-slice-aggregate-result
 slice-aggregate-result c = search needs
 
 returns : tie.Need-returns
-returns c = nothing-looked _ _ _ (c .before .before .is-faulty .ensures) _ (c .before .if1 .taken)
+unfolding lookedUp
+returns c = faulty-none _ _ _ (c .before .before .is-faulty .ensures) _ _ (c .before .if1 .taken)
 
 definition-requires : tie.Need-definition-requires
 definition-requires c κs = search needs
 
 returns-2 : tie.Need-returns-2
-returns-2 c = c .definition .ensures ∙ looked _ _ _ (c .before .before .is-faulty .ensures) _ (c .before .if1 .left)
+unfolding lookedUp
+returns-2 c = c .definition .ensures ∙ sound-found _ _ _ (c .before .before .is-faulty .ensures) _ _ (c .before .if1 .left)
 
 pub definition-spec : {M : Type 1} → statement M
 definition-spec =

@@ -1,7 +1,8 @@
 -- `lookups::stored_lines` meets its contract. Assumes nothing.
 use Rattle.signed.proofs.Machine.{rd-is}
-use Rattle.lookups.proofs.Looking.{nothing-stored, stored-looked}
 use mathlib.Core.Path.{_∙_}
+use Rattle.lookups.specs.Looking.{storedUp}
+use Rattle.lookups.proofs.Looking.{faulty-none, sound-found}
 use borrow.Author.Needs.{needs}
 use Rattle.lookups.proofs.stored_lines.Statement.{statement}
 use Rattle.lookups.proofs.stored_lines.Tie as tie
@@ -13,13 +14,15 @@ slice-aggregate-result : tie.Need-slice-aggregate-result
 slice-aggregate-result c = search needs
 
 returns : tie.Need-returns
-returns c = nothing-stored _ _ _ (c .before .before .is-faulty .ensures) _ (c .before .if1 .taken)
+unfolding storedUp
+returns c = faulty-none _ _ _ (c .before .before .is-faulty .ensures) _ _ (c .before .if1 .taken)
 
 stored-lines-requires : tie.Need-stored-lines-requires
 stored-lines-requires c κs = search needs
 
 returns-2 : tie.Need-returns-2
-returns-2 c = c .stored-lines .ensures ∙ rw (rd-is (c .before .before .before .before .before .fits .id)) (stored-looked _ _ _ (c .before .before .is-faulty .ensures) _ (c .before .if1 .left))
+unfolding storedUp
+returns-2 c = c .stored-lines .ensures ∙ rw (rd-is (c .before .before .before .before .before .fits .id)) (sound-found _ _ _ (c .before .before .is-faulty .ensures) _ _ (c .before .if1 .left))
 
 pub stored-lines-spec : {M : Type 1} → statement M
 stored-lines-spec =
