@@ -8,3 +8,4 @@ pub mod Questions
 pub mod Tables
 pub mod Exactly
 pub mod Marked
+pub mod Unique

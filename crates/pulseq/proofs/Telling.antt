@@ -8,7 +8,6 @@ use borrow.Author.Tests.{eq-eqb, ne-eqb}
 use lib.IntN.{ℤ}
 use lib.ListN.{length, take, drop, getD, set, replicate, length-set, drop-of-length-le}
 use lib.Seq.{take-all, take-suc-set, drop-cons}
-use Rattle.output.specs.Over.{clearedFrom}
 use Rattle.shape.specs.declared.Edition.{Edition}
 use Rattle.shape.specs.declared.Edition.the-variants.{V13, V14}
 use Rattle.shape.specs.Answers.{numberOf, usedOf}
@@ -23,11 +22,6 @@ use Rattle.lookups.specs.Spots.{spotNumber, spotStart, spotLength, definitionSp
 use Rattle.lookups.specs.declared.Spot.{Spot}
 use Rattle.pulseq.specs.Exports.{told, readNumbers, ReadTold, editionOf, expandNumbers, expandSamples, expandAnswer, ExpandTold, writeNumbers, writeOutput, writeAnswer, WriteTold, spotNumbers, DefinitionTold, StoredTold}
 use Rattle.pulseq.specs.declared.Named.the-variants.{Known, Unknown}
-
--- ---- a list that is cleared from its first element on
-pub cleared-all : {A : Type 0} (z : A) (l : List A) → clearedFrom z 0 l ≡ replicate (length l) z
-unfolding clearedFrom
-cleared-all z l = let e : length l - 0 ≡ length l = omega arith in rw e
 
 -- ---- behind the last number there is 0
 pub none-behind : (ns : List ℕ) (i : ℕ) → length ns ≤ i → 0 ≡ getD ns i 0
