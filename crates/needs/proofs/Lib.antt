@@ -1,0 +1,2 @@
+-- Laws of the rasters that restating needs.
+pub mod Needing

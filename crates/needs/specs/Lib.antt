@@ -1,0 +1,2 @@
+-- What must be believed of the rasters that restating needs.
+pub mod Needs

@@ -1,0 +1,2 @@
+-- Laws of what a target edition cannot say.
+pub mod Saying
