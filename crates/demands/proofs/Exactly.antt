@@ -25,11 +25,12 @@ use Rattle.rules.specs.Rules.{isBroken, firstBroken}
 use Rattle.rules.specs.declared.Rule.{Rule}
 use Rattle.rules.specs.declared.Rule.the-variants.{Reference, Loop, Use, Align, Long, Outlasts}
 use Rattle.answers.specs.Answers.{isAccepted}
+use Rattle.answers.specs.declared.Answer.{Answer}
 use Rattle.answers.specs.declared.Answer.the-variants.{Accepted}
 use Rattle.questions.specs.Asked.{lacksRoom}
-use Rattle.reader.specs.Reading.{zeros, rowsLaid, samplesLaid, rowsKept, samplesKept, readOf, rowsOut, samplesOut}
+use Rattle.reader.specs.Reading.{zeros, rowsLaid, samplesLaid, rowsKept, samplesKept, readOf, rowsOut, samplesOut, Reading}
 use Rattle.demands.specs.Rules.{Follows}
-use Rattle.demands.specs.Keeping.{SoundSite, sampleSum, Expands, SamplesHeld, Keeps, RowsHeld}
+use Rattle.demands.specs.Keeping.{SoundSite, sampleSum, Expands, SamplesHeld, Keeps, RowsHeld, SecondDemand}
 use Rattle.demands.proofs.Passing.{Passed, accepted-passes, passed-accepted}
 use Rattle.demands.proofs.Lines.{runs-verdict, verdict-runs, verdict-scanned, scanned-ends}
 use Rattle.demands.proofs.Ruling.{such-all, all-such, meets, dangles-not, chain-ends, loops-not, fits-of, of-fits, aligned-in, of-aligned-in, short-of, of-short, lasting-in, of-lasting-in}
@@ -209,3 +210,14 @@ module _ (file site : List ℕ) (room size : ℕ) where
         (rows-held-all (k .end .edition) (rastersOf (k .end .edition) file site) (rowsOf file) (rows-twelve file) room (k .samples)
         (fits file site room size (k .end) verdict (k .small) (k .rows-fit) samples-within)
         (λ i h p. k .rules .short i h p))
+
+-- ---- Demand 2: whatever is read with sound site definitions into whatever tables
+pub second-demand : (file site : List ℕ) (table l : List ℤ) (r : Answer) (table′ l′ : List ℤ) → SoundSite site → Reading file site table l r table′ l′
+    → SecondDemand file site table l r table′ l′
+second-demand file site table l r table′ l′ sound x =
+    record {
+      keeps = λ a. accepted-keeps file site (length table) (length l) (rw (← x .answer) a);
+      accepts = λ k. x .answer ∙ keeps-accepted file site (length table) (length l) sound k;
+      rows = λ k. rw (x .rows) (rows-hold file site (length table) (length l) sound k);
+      samples = λ k. x .samples ∙ samples-hold file site (length table) (length l) sound k;
+    }

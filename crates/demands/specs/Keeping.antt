@@ -27,6 +27,9 @@ use Rattle.tables.specs.Tables.{numberAt}
 use Rattle.blocks.specs.Blocks.{blockLength, isBlock}
 use Rattle.sampling.specs.Sampling.{isShapeRow, textAt, numAt, placeAt, Outside}
 use Rattle.repeats.specs.Once.{Twice}
+use Rattle.answers.specs.Answers.{isAccepted}
+use Rattle.answers.specs.declared.Answer.{Answer}
+use Rattle.answers.specs.declared.Answer.the-variants.{Accepted}
 use Rattle.reader.specs.Reading.{zeros, rowsLaid}
 use Rattle.demands.specs.Rules.{Follows}
 
@@ -100,3 +103,11 @@ pub record RowsHeld (e : Edition) (q : Rasters) (rs : List Placed) (samples rows
   pub numbers : (k c : ℕ) → k < length rs → c < rowWidth
       → numberAt table k c ≡ cond (isBlock rows k && eqb c 9) (pos (blockLength e q rows (length rs) samples k)) (getD (cellsOf rs k) c (pos 0))
   pub rest : (i : ℕ) → length rs * rowWidth ≤ i → getD table i (pos 0) ≡ pos 0
+
+-- ---- Demand 2 of what reading answers and leaves: it accepts exactly what keeps to all this, counts what is there, and the tables hold it
+pub record SecondDemand (file site : List ℕ) (table l : List ℤ) (r : Answer) (table′ l′ : List ℤ) : Type 0 where
+  pub keeps : isAccepted r ≡ true → Keeps file site (length table) (length l)
+  pub accepts : Keeps file site (length table) (length l) → r ≡ Accepted (length (rowsOf file)) (sampleSum (rowsOf file))
+  pub rows : (k : Keeps file site (length table) (length l))
+      → RowsHeld (k .end .edition) (rastersOf (k .end .edition) file site) (rowsOf file) (k .samples) (rowsLaid file (zeros (length table))) (length table) table′
+  pub samples : (k : Keeps file site (length table) (length l)) → l′ ≡ k .samples
