@@ -1,0 +1,2 @@
+-- Laws of rows as a target edition says them.
+pub mod Saying

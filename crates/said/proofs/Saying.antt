@@ -1,0 +1,121 @@
+-- A row's numbers one after another, its duration as the target says it, and lines one after another. Assumes nothing.
+use Prim.Native.Nat.{ℕ, suc, _+_, _-_, min, _≤_, _<_}
+use mathlib.Core.Bool.{Bool, true, false}
+use mathlib.Core.List.{List, [], _∷_, _++_, append-assoc, append-nil}
+use mathlib.Core.Path.{_≡_, refl, sym, _∙_}
+use native.Mathlib.Numerals.{add-one}
+use native.Mathlib.Omega.{arith}
+use lib.IntN.{ℤ, pos}
+use lib.ListN.{length, take, set, length-set}
+use lib.Seq.{take-all, take-suc-set}
+use Rattle.signed.specs.Signed.{sameZ, signedOf, largest}
+use Rattle.output.specs.Over.{farthest, Put}
+use Rattle.output.proofs.Over.{put-length, put-none, put-then}
+use Rattle.unit.specs.Time.{onRaster}
+use Rattle.shape.specs.declared.Edition.{Edition}
+use Rattle.shape.specs.declared.Edition.the-variants.{V13, V14}
+use Rattle.columns.specs.declared.Form.{Form}
+use Rattle.tables.specs.Tables.{numberAt}
+use Rattle.sayable.specs.Sayable.{nanosAt}
+use Rattle.durations.specs.Durations.{delayNumber}
+use Rattle.said.specs.Said.{numbersFrom, numbersAt, stepsOf, durationOf, durationNumber, saidRow, isOfForm, lineText, rowLine, rowsText}
+
+-- ---- the numbers of a row: those so far, and those that are left
+pub record Copying (rows : List ℤ) (k : ℕ) (cells : List ℤ) (c : ℕ) : Type 0 where
+  pub within : c ≤ 12
+  pub long : length cells ≡ 12
+  pub same : take c cells ++ numbersFrom rows k c (12 - c) ≡ numbersAt rows k
+
+module _ (rows : List ℤ) (k : ℕ) where
+  pub copy-start : (cells : List ℤ) → length cells ≡ 12 → Copying rows k cells 0
+  unfolding numbersAt
+  copy-start cells e = record { within = omega arith; long = e; same = refl }
+
+  module _ (cells : List ℤ) (c : ℕ) (w : Copying rows k cells c) where
+    pub copy-turn : c < 12 → (v : ℤ) → v ≡ numberAt rows k c → Copying rows k (set cells c v) (c + 1)
+    unfolding numbersFrom
+    copy-turn h v p =
+        let left : 12 - c ≡ suc (12 - suc c) = omega arith in
+        let l = w .long in
+        let s : take c cells ++ (numberAt rows k c ∷ numbersFrom rows k (suc c) (12 - suc c)) ≡ numbersAt rows k = rw left at (w .same) in
+        record {
+          within = omega arith;
+          long = length-set cells c v ∙ w .long;
+          same = rw (add-one c, take-suc-set cells c v (omega arith), append-assoc, p) s;
+        }
+
+    pub copy-end : 12 ≤ c → cells ≡ numbersAt rows k
+    unfolding numbersFrom
+    copy-end h =
+        let e : 12 - c ≡ 0 = omega arith in
+        let l = w .long in
+        let s : take c cells ++ [] ≡ numbersAt rows k = rw e at (w .same) in
+        sym (take-all c cells (omega arith)) ∙ sym (append-nil (take c cells)) ∙ s
+
+-- ---- the duration of a block
+module _ (target : Edition) (raster : ℕ) (rows : List ℤ) (n k : ℕ) where
+  pub duration-13 : target ≡ V13 → delayNumber rows n k ≡ durationOf target raster rows n k
+  unfolding durationOf
+  duration-13 e = rw e
+
+  pub duration-14 : target ≡ V14 → (ns : ℕ) → ns ≡ nanosAt rows k → stepsOf (onRaster ns raster) ≡ durationOf target raster rows n k
+  unfolding durationOf
+  duration-14 e ns p = rw (e, p)
+
+  pub duration-is : (d : ℕ) → d ≡ durationOf target raster rows n k → (r : ℤ) → r ≡ signedOf false (min d largest) → r ≡ durationNumber target raster rows n k
+  unfolding durationNumber signedOf
+  duration-is d p r q = q ∙ rw p
+
+  pub said-block : sameZ (numberAt rows k 0) (pos 1) ≡ true → (cells : List ℤ) → cells ≡ numbersAt rows k → (v : ℤ) → v ≡ durationNumber target raster rows n k
+      → set cells 2 v ≡ saidRow target raster rows n k
+  unfolding saidRow
+  said-block e cells p v q = rw (e, p, q)
+
+  pub said-other : sameZ (numberAt rows k 0) (pos 1) ≡ false → (cells : List ℤ) → cells ≡ numbersAt rows k → cells ≡ saidRow target raster rows n k
+  unfolding saidRow
+  said-other e cells p = rw e p
+
+-- ---- lines
+module _ (target : Edition) (raster : ℕ) (form : Form) (rows : List ℤ) (n k : ℕ) (b : Bool) (p : b ≡ isOfForm form rows k) where
+  pub line-of : b ≡ true → (row : List ℤ) → row ≡ saidRow target raster rows n k → lineText target form row ≡ rowLine target raster form rows n k
+  unfolding rowLine
+  line-of e row q = rw (← p, e, q)
+
+  pub no-line : b ≡ false → [] ≡ rowLine target raster form rows n k
+  unfolding rowLine
+  no-line e = rw (← p, e)
+
+-- ---- a text that is written part by part from a place on: what was written and what is left make up the whole
+pub record PartlyFrom (l₀ : List ℕ) (from : ℕ) (whole rest : List ℕ) (at : ℕ) (l : List ℕ) : Type 0 where
+  pub done : List ℕ
+  pub put : Put l₀ from done at l
+  pub text : done ++ rest ≡ whole
+
+module _ (target : Edition) (raster : ℕ) (form : Form) (rows : List ℤ) (n : ℕ) where
+  pub record RowsPut (l₀ : List ℕ) (from at : ℕ) (l : List ℕ) (k : ℕ) : Type 0 where
+    pub within : k ≤ n
+    pub part : PartlyFrom l₀ from (rowsText target raster form rows n 0 n) (rowsText target raster form rows n k (n - k)) at l
+
+  pub rows-start : (l : List ℕ) (from : ℕ) → from ≤ farthest → length l ≤ farthest → RowsPut l from from l 0
+  rows-start l from f h = let e : n - 0 ≡ n = omega arith in record { within = omega arith; part = record { done = []; put = put-none f h; text = rw e } }
+
+  module _ {l₀ l : List ℕ} {from at k : ℕ} (w : RowsPut l₀ from at l k) where
+    pub rows-length : length l ≡ length l₀
+    rows-length = put-length (w .part .put)
+
+    pub rows-turn : k < n → {r : ℕ} {l′ : List ℕ} → Put l at (rowLine target raster form rows n k) r l′ → RowsPut l₀ from r l′ (k + 1)
+    unfolding rowsText
+    rows-turn h q =
+        let left : n - k ≡ suc (n - suc k) = omega arith in
+        let t : w .part .done ++ (rowLine target raster form rows n k ++ rowsText target raster form rows n (suc k) (n - suc k)) ≡ rowsText target raster form rows n 0 n = rw left at (w .part .text) in
+        record {
+          within = omega arith;
+          part = record { done = w .part .done ++ rowLine target raster form rows n k; put = put-then (w .part .put) q; text = rw (add-one k, append-assoc) t };
+        }
+
+    pub rows-end : n ≤ k → Put l₀ from (rowsText target raster form rows n 0 n) at l
+    unfolding rowsText
+    rows-end h =
+        let e : n - k ≡ 0 = omega arith in
+        let t : w .part .done ++ [] ≡ rowsText target raster form rows n 0 n = rw e at (w .part .text) in
+        rw (sym (append-nil (w .part .done)) ∙ t) at (w .part .put)

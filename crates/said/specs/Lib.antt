@@ -1,0 +1,2 @@
+-- What must be believed of rows as a target edition says them.
+pub mod Said

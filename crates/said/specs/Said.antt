@@ -1,0 +1,58 @@
+-- Rows as a target says them. "rows in file order, single spaces, LF"; "IDs stay".
+use Prim.Native.Nat.{ℕ, zero, suc, min}
+use mathlib.Core.Bool.{Bool, cond}
+use mathlib.Core.List.{List, [], _∷_, _++_}
+use lib.IntN.{ℤ, pos}
+use lib.ListN.{drop, set}
+use Rattle.signed.specs.Signed.{sameZ, largest}
+use Rattle.unit.specs.Time.{onRaster}
+use Rattle.unit.specs.declared.OnRaster.{OnRaster}
+use Rattle.unit.specs.declared.OnRaster.the-variants.{Steps, Off}
+use Rattle.shape.specs.declared.Edition.{Edition}
+use Rattle.shape.specs.declared.Edition.the-variants.{V13, V14}
+use Rattle.columns.specs.Columns.{columnsOf, formNumber}
+use Rattle.columns.specs.Rows.{rowWidth}
+use Rattle.columns.specs.declared.Form.{Form}
+use Rattle.row_text.specs.Printed.{rowText}
+use Rattle.tables.specs.Tables.{numberAt}
+use Rattle.blocks.specs.Blocks.{isBlock}
+use Rattle.sayable.specs.Sayable.{nanosAt}
+use Rattle.durations.specs.Durations.{delayNumber}
+
+-- m numbers of row k from number c on, and all twelve
+unfoldable pub numbersFrom : List ℤ → ℕ → ℕ → ℕ → List ℤ
+numbersFrom rows k c zero = []
+numbersFrom rows k c (suc m) = numberAt rows k c ∷ numbersFrom rows k (suc c) m
+
+unfoldable pub numbersAt : List ℤ → ℕ → List ℤ
+numbersAt rows k = numbersFrom rows k 0 rowWidth
+
+-- ---- "duration (1.3: delay ID)": what a target says for the duration of block k, of n rows
+unfoldable pub stepsOf : OnRaster → ℕ
+stepsOf (Steps count) = count .0
+stepsOf Off = 0
+
+unfoldable pub durationOf : Edition → ℕ → List ℤ → ℕ → ℕ → ℕ
+durationOf V13 raster rows n k = delayNumber rows n k
+durationOf V14 raster rows n k = stepsOf (onRaster (nanosAt rows k) raster)
+
+unfoldable pub durationNumber : Edition → ℕ → List ℤ → ℕ → ℕ → ℤ
+durationNumber target raster rows n k = pos (min (durationOf target raster rows n k) largest)
+
+-- ---- Row k as the target says it
+unfoldable pub saidRow : Edition → ℕ → List ℤ → ℕ → ℕ → List ℤ
+saidRow target raster rows n k = cond (isBlock rows k) (set (numbersAt rows k) 2 (durationNumber target raster rows n k)) (numbersAt rows k)
+
+-- ---- The lines of the rows of a form, of m rows from row k on, each ended by LF
+unfoldable pub isOfForm : Form → List ℤ → ℕ → Bool
+isOfForm form rows k = sameZ (numberAt rows k 0) (pos (formNumber form))
+
+unfoldable pub lineText : Edition → Form → List ℤ → List ℕ
+lineText target form row = rowText (columnsOf target form) (drop 1 row) ++ (10 ∷ [])
+
+unfoldable pub rowLine : Edition → ℕ → Form → List ℤ → ℕ → ℕ → List ℕ
+rowLine target raster form rows n k = cond (isOfForm form rows k) (lineText target form (saidRow target raster rows n k)) []
+
+unfoldable pub rowsText : Edition → ℕ → Form → List ℤ → ℕ → ℕ → ℕ → List ℕ
+rowsText target raster form rows n k zero = []
+rowsText target raster form rows n k (suc m) = rowLine target raster form rows n k ++ rowsText target raster form rows n (suc k) m
