@@ -1,0 +1,2 @@
+-- Laws of the sections of a restated text.
+pub mod Putting

@@ -1,0 +1,52 @@
+-- `section_text::put_delay_section` meets its contract. Assumes nothing.
+use Rattle.section_text.proofs.Putting.{delays-some, delays-none}
+use borrow.Author.Needs.{needs}
+use Rattle.section_text.proofs.put_delay_section.Statement.{statement}
+use Rattle.section_text.proofs.put_delay_section.Tie as tie
+
+has-delays-requires : tie.Need-has-delays-requires
+has-delays-requires c κs = search needs
+
+put-head-requires : tie.Need-put-head-requires
+put-head-requires c κs = search needs
+
+put-delays-requires : tie.Need-put-delays-requires
+put-delays-requires c κs = search needs
+
+put-byte-requires : tie.Need-put-byte-requires
+put-byte-requires c κs = search needs
+
+same-length : tie.Need-same-length
+same-length c = search needs
+
+returns : tie.Need-returns
+returns c = let z = c .before .before in let y = z .before .before .before .before in let x = y .before .before .before .before in let t = x .before .before in
+    delays-some _ _ _ (t .before .has-delays .ensures) (t .if1 .taken) (x .put-head .ensures) (y .put-delays .ensures) (z .put-byte .ensures)
+
+slice-aggregate-put-bytes : tie.Need-slice-aggregate-put-bytes
+slice-aggregate-put-bytes c = search needs
+
+put-bytes-requires : tie.Need-put-bytes-requires
+put-bytes-requires c κs = search needs
+
+same-length-2 : tie.Need-same-length-2
+same-length-2 c = search needs
+
+returns-2 : tie.Need-returns-2
+returns-2 c = let p = c .before .before in let e = p .before .before .before in
+    rw (← delays-none _ _ _ (e .before .has-delays .ensures) (e .if1 .left)) (p .put-bytes .ensures)
+
+pub put-delay-section-spec : {M : Type 1} → statement M
+put-delay-section-spec =
+    tie.close
+    (tie.spec
+    has-delays-requires
+    put-head-requires
+    put-delays-requires
+    put-byte-requires
+    same-length
+    returns
+    slice-aggregate-put-bytes
+    put-bytes-requires
+    same-length-2
+    returns-2)

@@ -1,0 +1,140 @@
+// Sections of a restated text: VERSION, the sections whose rows are written by their columns, and the delay rows made for durations.
+ghost use mathlib.Core.Path.{_≡_};
+ghost use Prim.Native.Nat.{min};
+ghost use lib.IntN.{pos};
+ghost use Rattle.output.specs.Over.{Put};
+ghost use Rattle.signed.specs.Signed.{largest};
+ghost use Rattle.section_text.specs.Sections.{versionText, headText, hasForm, sectionText, wholeMicros, delayLine, delaysText, hasDelays, delaySection};
+use columns::Form;
+use shape::Edition;
+use unit::InMicros;
+use unit::Nanos;
+
+// Writes VERSION for a target, of revision 1, with a blank line behind it.
+pub fn put_version(out: &mut [u8], at: usize, target: Edition) -> usize
+    ensures { λ r. ⌜ Put (now (out .entry)) at (versionText target) r (now (out .exit)) ⌝ }
+{
+    match target {
+        Edition::V13 => output::put_bytes(out, at, b"[VERSION]\nmajor 1\nminor 3\nrevision 1\n\n"),
+        Edition::V14 => output::put_bytes(out, at, b"[VERSION]\nmajor 1\nminor 4\nrevision 1\n\n"),
+    }
+}
+
+// Writes the head of the section of a form; triggers have none of their own.
+fn put_head(out: &mut [u8], at: usize, form: Form) -> usize
+    ensures { λ r. ⌜ Put (now (out .entry)) at (headText form) r (now (out .exit)) ⌝ }
+{
+    match form {
+        Form::Block => output::put_bytes(out, at, b"[BLOCKS]\n"),
+        Form::Rf => output::put_bytes(out, at, b"[RF]\n"),
+        Form::Gradient => output::put_bytes(out, at, b"[GRADIENTS]\n"),
+        Form::Trap => output::put_bytes(out, at, b"[TRAP]\n"),
+        Form::Adc => output::put_bytes(out, at, b"[ADC]\n"),
+        Form::Delay => output::put_bytes(out, at, b"[DELAYS]\n"),
+        Form::Entry => output::put_bytes(out, at, b"[EXTENSIONS]\n"),
+        Form::Trigger => output::put_bytes(out, at, b""),
+    }
+}
+
+// Is there a row of a form among n rows?
+pub fn has_form(form: Form, rows: &[i64], n: usize) -> bool
+    ensures { λ r. ⌜ r ≡ hasForm form (now (rows .entry)) n ⌝ }
+{
+    let mut k: usize = 0;
+    while k < n {
+        if said::is_of_form(form, rows, k) {
+            return true;
+        }
+        k += 1;
+    }
+    false
+}
+
+// Writes the section of a form, as the target says it: its head, its rows and a blank line, or nothing where there is no row.
+pub fn put_section(
+    out: &mut [u8],
+    at: usize,
+    target: Edition,
+    raster: Nanos,
+    form: Form,
+    rows: &[i64],
+    n: usize,
+) -> usize
+    ensures { λ r. ⌜ Put (now (out .entry)) at (sectionText target (raster .0) form (now (rows .entry)) n) r (now (out .exit)) ⌝ }
+{
+    if has_form(form, rows, n) {
+        let body = put_head(out, at, form);
+        let end = said::put_rows(out, body, target, raster, form, rows, n);
+        return output::put_byte(out, end, 10);
+    }
+    output::put_bytes(out, at, b"")
+}
+
+// Whole microseconds; 0 where there are none.
+fn whole_micros(length: InMicros) -> u64
+    ensures { λ r. ⌜ r ≡ wholeMicros length ⌝ }
+{
+    match length {
+        InMicros::Whole(micros) => micros.0,
+        InMicros::Between => 0,
+    }
+}
+
+// A number of a row that is not negative.
+fn plain_number(n: u64) -> i64
+    ensures { λ r. ⌜ r ≡ pos (min n largest) ⌝ }
+{
+    signed::with_sign(false, n)
+}
+
+// Writes the delay row of row k, of n rows, if that is the first use of a duration.
+fn put_delay(out: &mut [u8], at: usize, rows: &[i64], n: usize, k: usize) -> usize
+    ensures { λ r. ⌜ Put (now (out .entry)) at (delayLine (now (rows .entry)) n k) r (now (out .exit)) ⌝ }
+{
+    if durations::is_first(rows, n, k) {
+        let id = plain_number(durations::delay_number(rows, n, k) as u64);
+        let micros = plain_number(whole_micros(sayable::nanos_at(rows, k).micros()));
+        let row = [6, id, micros];
+        return said::put_line(out, at, Edition::V13, Form::Delay, &row);
+    }
+    output::put_bytes(out, at, b"")
+}
+
+// Writes the delay rows of n rows.
+fn put_delays(out: &mut [u8], at: usize, rows: &[i64], n: usize) -> usize
+    ensures { λ r. ⌜ Put (now (out .entry)) at (delaysText (now (rows .entry)) n 0 n) r (now (out .exit)) ⌝ }
+{
+    let mut place = at;
+    let mut k: usize = 0;
+    while k < n {
+        place = put_delay(out, place, rows, n, k);
+        k += 1;
+    }
+    place
+}
+
+// Is there a duration that needs a delay row?
+fn has_delays(rows: &[i64], n: usize) -> bool
+    ensures { λ r. ⌜ r ≡ hasDelays (now (rows .entry)) n ⌝ }
+{
+    let mut k: usize = 0;
+    while k < n {
+        if durations::is_first(rows, n, k) {
+            return true;
+        }
+        k += 1;
+    }
+    false
+}
+
+// Writes DELAYS for 1.3.1: one row for each distinct nonzero duration, or nothing where there is none.
+pub fn put_delay_section(out: &mut [u8], at: usize, rows: &[i64], n: usize) -> usize
+    ensures { λ r. ⌜ Put (now (out .entry)) at (delaySection (now (rows .entry)) n) r (now (out .exit)) ⌝ }
+{
+    if has_delays(rows, n) {
+        let body = put_head(out, at, Form::Delay);
+        let end = put_delays(out, body, rows, n);
+        return output::put_byte(out, end, 10);
+    }
+    output::put_bytes(out, at, b"")
+}
