@@ -14,6 +14,7 @@ use Rattle.columns.specs.Rows.{rowWidth}
 use Rattle.places.specs.declared.State.{State}
 use Rattle.file.specs.Whole.{verdictOf, ended}
 use Rattle.file.specs.Rows.{rowsOf}
+use Rattle.file_laws.proofs.Ending.{verdict-scanned, scanned-ends}
 use Rattle.file_laws.proofs.Stacking.{rows-stacked}
 use Rattle.file_tables.proofs.Whole.{rows-twelve, rows-held, shape-room, shapes-apart}
 use Rattle.exact_lengths.specs.Tables.{TablesIn}
@@ -29,13 +30,14 @@ use Rattle.answers.specs.declared.Answer.{Answer}
 use Rattle.answers.specs.declared.Answer.the-variants.{Accepted}
 use Rattle.questions.specs.Asked.{lacksRoom}
 use Rattle.reader.specs.Reading.{zeros, rowsLaid, samplesLaid, rowsKept, samplesKept, readOf, rowsOut, samplesOut, Reading}
+use Rattle.reader.proofs.Judging.{room-enough}
 use Rattle.demands.specs.Rules.{Follows}
 use Rattle.demands.specs.Keeping.{SoundSite, sampleSum, Expands, SamplesHeld, Keeps, RowsHeld, SecondDemand}
 use Rattle.demands.proofs.Passing.{Passed, accepted-passes, passed-accepted}
-use Rattle.demands.proofs.Lines.{runs-verdict, verdict-runs, verdict-scanned, scanned-ends}
+use Rattle.demands.proofs.Lines.{runs-verdict, verdict-runs}
 use Rattle.demands.proofs.Ruling.{such-all, all-such, meets, dangles-not, chain-ends, loops-not, fits-of, of-fits, aligned-in, of-aligned-in, short-of, of-short, lasting-in, of-lasting-in}
 use Rattle.demands.proofs.Samples.{stacked-sum, shape-of, of-shape, laid-held, held-same, held-in}
-use Rattle.demands.proofs.Questions.{big-of, of-big, missing-block, missing-defined, of-missing, room-rows, room-samples, of-room, of-site, of-once, none-twice, rasters-of, of-rasters, rasters-in}
+use Rattle.demands.proofs.Questions.{big-of, of-big, missing-block, missing-defined, of-missing, room-samples, of-room, of-site, of-once, none-twice, rasters-of, of-rasters, rasters-in}
 use Rattle.demands.proofs.Tables.{rows-held-all}
 
 -- ---- a file that comes to its end, small, with room for its rows and samples: what is known of its tables
@@ -130,7 +132,7 @@ module _ (file site : List ℕ) (room size : ℕ) where
     keeps-of p =
         let room-left : lacked end room size ≡ false = rw (length-replicate room (pos 0), length-replicate size (pos 0)) at (p .room) in
         let small = big-of file site (p .big) in
-        let rows-fit = room-rows (length (rowsOf file)) (end .samples) room size room-left in
+        let rows-fit = room-enough (length (rowsOf file)) (end .samples) room size room-left in
         let samples-fit = room-samples (length (rowsOf file)) (end .samples) room size room-left in
         let good = rasters-of (end .edition) (rastersOf (end .edition) file site) (p .raster) in
         let shapes = shapes-of file site room size end verdict small rows-fit samples-fit (p .shapes) in

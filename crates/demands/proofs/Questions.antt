@@ -89,10 +89,6 @@ module _ (rs : List Placed) where
 
 -- ---- ROOM
 module _ (n s room size : ℕ) where
-  pub room-rows : lacksRoom n s room size ≡ false → n ≤ room / rowWidth
-  unfolding lacksRoom
-  room-rows e = ltb-false (room / rowWidth) n (or-none (ltb (room / rowWidth) n) _ e .0)
-
   pub room-samples : lacksRoom n s room size ≡ false → s ≤ size
   unfolding lacksRoom
   room-samples e = ltb-false size s (or-none (ltb (room / rowWidth) n) _ e .1)

@@ -87,6 +87,13 @@ row-none Row e = absurd (e refl)
 row-none Definition e = refl
 row-none (FoundFault f) e = refl
 
+-- the same by a count that is 0 or not
+pub row-zero : (f : Found) → rowCount f ≡ 0 → isRow f ≡ false
+row-zero f e = row-none f (λ (q : rowCount f ≡ 1). omega arith)
+
+pub row-some : (f : Found) → (rowCount f ≡ 0 → ⊥) → isRow f ≡ true
+row-some f n = let m = count-most f in row-one f (omega arith)
+
 module _ (k : ℕ) (s : Stepped) (count : ℕ) (p : count ≡ rowCount (s .found)) (table : List ℤ) where
   pub laid-one : count ≡ 1 → (table′ : List ℤ) → table′ ≡ laidRow table k (s .cells) → Laid (rowAt 0 [] s) k count table table′
   unfolding rowAt laidRows

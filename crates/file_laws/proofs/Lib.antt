@@ -3,5 +3,6 @@ pub mod Padded
 pub mod Steps
 pub mod Ranges
 pub mod Stacking
+pub mod Ending
 pub mod Unique
 pub mod Examples

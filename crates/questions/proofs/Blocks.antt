@@ -3,7 +3,6 @@ use Prim.Native.Nat.{ℕ, _+_, _-_, _≤_}
 use mathlib.Core.Bool.{Bool, true, false, cond, _&&_, true≢false}
 use mathlib.Core.List.{List, [], _∷_, _++_}
 use mathlib.Core.Path.{_≡_, refl, sym, ap, _∙_}
-use native.Mathlib.Omega.{arith}
 use lib.IntN.{pos}
 use lib.ListN.{length, take, drop}
 use Rattle.signed.specs.Signed.{sameZ}
@@ -13,40 +12,25 @@ use Rattle.text.proofs.Cut.{LineAt}
 use Rattle.tables.specs.Tables.{numberAt}
 use Rattle.blocks.specs.Blocks.{isBlock}
 use Rattle.places.specs.Places.{fresh}
-use Rattle.places.specs.declared.Found.{Found}
-use Rattle.places.specs.declared.Found.the-variants.{Nothing, Row, Definition, Fault}
 use Rattle.places.specs.declared.State.{State}
 use Rattle.places.specs.declared.Stepped.{Stepped}
 use Rattle.grammar.specs.Steps.{stepOf}
 use Rattle.file.specs.Whole.{isFault, isRow, rowCount}
 use Rattle.file.specs.Rows.{Placed, rowAt, rowsFrom, rowsOf}
+use Rattle.file.proofs.Laying.{row-zero, row-some}
 use Rattle.file.proofs.Walking.{Within, within-start, within-turn, gathered-turn, gathered-stop, gathered-end}
 use Rattle.questions.specs.Asked.{anyBlock}
 use Rattle.questions.specs.Inside.{givesBlock}
 
 -- ---- whether a line has given a block
-not-row : (found : Found) → rowCount found ≡ 0 → isRow found ≡ false
-unfolding isRow
-not-row Nothing e = refl
-not-row Row e = absurd (omega arith)
-not-row Definition e = refl
-not-row (Fault fault) e = refl
-
-a-row : (found : Found) → (rowCount found ≡ 0 → ⊥) → isRow found ≡ true
-unfolding isRow
-a-row Nothing e = absurd (e refl)
-a-row Row e = refl
-a-row Definition e = absurd (e refl)
-a-row (Fault fault) e = absurd (e refl)
-
 module _ (did : Stepped) (count : ℕ) (q : count ≡ rowCount (did .found)) where
   pub block-none : count ≡ 0 → false ≡ givesBlock did
   unfolding givesBlock
-  block-none e = rw (not-row (did .found) (sym q ∙ e))
+  block-none e = rw (row-zero (did .found) (sym q ∙ e))
 
   pub block-row : (count ≡ 0 → ⊥) → sameZ (numberAt (did .cells) 0 0) (pos 1) ≡ givesBlock did
   unfolding givesBlock
-  block-row e = rw (a-row (did .found) (λ z. e (q ∙ z)))
+  block-row e = rw (row-some (did .found) (λ z. e (q ∙ z)))
 
 -- ---- the loop over a file
 pub record BlockWalk (file : List ℕ) (st : State) (at n : ℕ) : Type 0 where

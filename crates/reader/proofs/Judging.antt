@@ -1,6 +1,6 @@
 -- One question after another: what is answered where one is reached, and what the tables hold then. Assumes nothing.
 use Prim.Native.Nat.{ℕ, _+_, _-_, _/_, _≤_, _<_}
-use mathlib.Core.Bool.{Bool, true, false, cond, _||_, true≢false}
+use mathlib.Core.Bool.{Bool, true, false, cond, true≢false}
 use mathlib.Core.List.{List, _∷_}
 use mathlib.Core.Path.{_≡_, refl, sym, ap, _∙_}
 use native.Mathlib.Numerals.{add-one}
@@ -13,10 +13,10 @@ use Rattle.unit.specs.declared.Rasters.{Rasters}
 use Rattle.shape.specs.declared.Edition.{Edition}
 use Rattle.places.specs.declared.Fault.{Fault}
 use Rattle.columns.specs.Rows.{rowWidth}
-use Rattle.file.specs.Whole.{Verdict, ended, stopped, verdictOf}
-use Rattle.file.specs.Rows.{Placed, rowsOf, lineOf, answerOf, scannedOf}
-use Rattle.file.specs.declared.Scanned.{Scanned}
+use Rattle.file.specs.Rows.{Placed, rowsOf, lineOf, scannedOf}
 use Rattle.file.specs.declared.Scanned.the-variants.{File, Fault as ScannedFault}
+use Rattle.file_laws.proofs.Ending.{scanned-ends}
+use Rattle.text.proofs.Lines.{or-left}
 use Rattle.repeats.specs.Repeats.{duplicateOf}
 use Rattle.repeats.proofs.Laid.{duplicate-laid}
 use Rattle.duplicates.specs.Words.{duplicateLine}
@@ -111,26 +111,8 @@ module _ (again : ℕ) (e : Edition) (file site : List ℕ) (n count : ℕ) (row
         texts-judged y j = record { answer = j .answer ∙ texts-hold y; rows = λ x. rw (← s) (j .rows x); values = j .values }
 
 -- ---- the rows that were counted are the file's, and they fit where there is room
-abbrev rowsTold : Scanned → ℕ
-rowsTold (File e n s defined) = n
-rowsTold (ScannedFault fault line) = 0
-
-abbrev isFile : Scanned → Bool
-isFile (File e n s defined) = true
-isFile (ScannedFault fault line) = false
-
-or-left : (a b : Bool) → a || b ≡ false → a ≡ false
-or-left true b e = e
-or-left false b e = refl
-
-rows-answered : (v : Verdict) (m : ℕ) (e : Edition) (n s : ℕ) (defined : Bool) → File e n s defined ≡ answerOf v m → n ≡ m
-unfolding answerOf
-rows-answered (ended st) m e n s defined p = ap rowsTold p
-rows-answered (stopped fault line) m e n s defined p = absurd (true≢false (ap isFile p))
-
-pub rows-counted : (file : List ℕ) (e : Edition) (n s : ℕ) (defined : Bool) → File e n s defined ≡ scannedOf file → n ≡ length (rowsOf file)
-unfolding scannedOf
-rows-counted file = rows-answered (verdictOf file) (length (rowsOf file))
+rows-counted : (file : List ℕ) (e : Edition) (n s : ℕ) (defined : Bool) → File e n s defined ≡ scannedOf file → n ≡ length (rowsOf file)
+rows-counted file e n s defined p = scanned-ends file e n s defined (sym p) .rows
 
 pub room-enough : (n s room size : ℕ) → lacksRoom n s room size ≡ false → n ≤ room / rowWidth
 unfolding lacksRoom

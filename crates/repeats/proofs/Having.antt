@@ -3,12 +3,11 @@ use Prim.Native.Nat.{ℕ}
 use mathlib.Core.Bool.{Bool, true, false, cond, _&&_, true≢false}
 use mathlib.Core.List.{List, [], _∷_, _++_}
 use mathlib.Core.Path.{_≡_, refl, sym, _∙_}
-use native.Mathlib.Omega.{arith}
 use lib.IntN.{ℤ}
 use Rattle.places.specs.declared.Stepped.{Stepped}
 use Rattle.file.specs.Whole.{isRow, rowCount}
 use Rattle.file.specs.Rows.{Placed, rowAt}
-use Rattle.file.proofs.Laying.{row-none, row-one, count-most}
+use Rattle.file.proofs.Laying.{row-zero, row-some}
 use Rattle.tables.specs.Tables.{numberAt, classAt, isRowOf}
 use Rattle.duplicates.specs.Words.{earlier}
 use Rattle.duplicates.proofs.Lines.{earlier-second}
@@ -17,29 +16,23 @@ use Rattle.repeats.specs.Inside.{givesRow, nextLike}
 
 -- ---- by how many rows a line gave
 module _ (s : Stepped) (count : ℕ) (p : count ≡ rowCount (s .found)) where
-  no-row : count ≡ 0 → isRow (s .found) ≡ false
-  no-row e = row-none (s .found) (λ (q : rowCount (s .found) ≡ 1). omega arith)
-
-  one-row : (count ≡ 0 → ⊥) → isRow (s .found) ≡ true
-  one-row n = let m = count-most (s .found) in row-one (s .found) (omega arith)
-
   -- is it of a class, with an ID?
   pub gives-none : (class id : ℤ) → count ≡ 0 → false ≡ givesRow class id s
   unfolding givesRow
-  gives-none class id e = rw (no-row e)
+  gives-none class id e = rw (row-zero (s .found) (sym p ∙ e))
 
   pub gives-one : (class id : ℤ) → (count ≡ 0 → ⊥) → isRowOf (s .cells) class id 0 ≡ givesRow class id s
   unfolding givesRow
-  gives-one class id n = rw (one-row n)
+  gives-one class id n = rw (row-some (s .found) (λ q. n (p ∙ q)))
 
   -- the next like it
   pub next-none : (rest : List Placed) → count ≡ 0 → 0 ≡ nextLike s rest
   unfolding nextLike
-  next-none rest e = rw (no-row e)
+  next-none rest e = rw (row-zero (s .found) (sym p ∙ e))
 
   pub next-like : (rest : List Placed) → (count ≡ 0 → ⊥) → (class id : ℤ) → class ≡ classAt (s .cells) 0 → id ≡ numberAt (s .cells) 0 1 → nextRow class id rest ≡ nextLike s rest
   unfolding nextLike
-  next-like rest n class id e f = rw (one-row n, e, f)
+  next-like rest n class id e f = rw (row-some (s .found) (λ q. n (p ∙ q)), e, f)
 
 -- ---- a line's row in front of others
 module _ (n : ℕ) (line : List ℕ) (s : Stepped) where

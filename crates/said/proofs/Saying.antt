@@ -18,7 +18,7 @@ use Rattle.columns.specs.declared.Form.{Form}
 use Rattle.tables.specs.Tables.{numberAt}
 use Rattle.sayable.specs.Sayable.{nanosAt}
 use Rattle.durations.specs.Durations.{delayNumber}
-use Rattle.said.specs.Said.{numbersFrom, numbersAt, stepsOf, durationOf, durationNumber, saidRow, isOfForm, lineText, rowLine, rowsText}
+use Rattle.said.specs.Said.{numbersFrom, numbersAt, stepsOf, durationOf, durationNumber, saidRow, isOfForm, lineText, rowLine, linesText}
 
 -- ---- the numbers of a row: those so far, and those that are left
 pub record Copying (rows : List ℤ) (k : ℕ) (cells : List ℤ) (c : ℕ) : Type 0 where
@@ -85,37 +85,31 @@ module _ (target : Edition) (raster : ℕ) (form : Form) (rows : List ℤ) (n k 
   unfolding rowLine
   no-line e = rw (← p, e)
 
--- ---- a text that is written part by part from a place on: what was written and what is left make up the whole
-pub record PartlyFrom (l₀ : List ℕ) (from : ℕ) (whole rest : List ℕ) (at : ℕ) (l : List ℕ) : Type 0 where
-  pub done : List ℕ
-  pub put : Put l₀ from done at l
-  pub text : done ++ rest ≡ whole
-
-module _ (target : Edition) (raster : ℕ) (form : Form) (rows : List ℤ) (n : ℕ) where
-  pub record RowsPut (l₀ : List ℕ) (from at : ℕ) (l : List ℕ) (k : ℕ) : Type 0 where
+-- ---- lines written one after another from a place on: what was written and the lines of the rows that are left make up the text
+module _ (line : ℕ → List ℕ) (n : ℕ) where
+  pub record LinesPut (l₀ : List ℕ) (from at : ℕ) (l : List ℕ) (k : ℕ) : Type 0 where
     pub within : k ≤ n
-    pub part : PartlyFrom l₀ from (rowsText target raster form rows n 0 n) (rowsText target raster form rows n k (n - k)) at l
+    pub done : List ℕ
+    pub put : Put l₀ from done at l
+    pub text : done ++ linesText line k (n - k) ≡ linesText line 0 n
 
-  pub rows-start : (l : List ℕ) (from : ℕ) → from ≤ farthest → length l ≤ farthest → RowsPut l from from l 0
-  rows-start l from f h = let e : n - 0 ≡ n = omega arith in record { within = omega arith; part = record { done = []; put = put-none f h; text = rw e } }
+  pub lines-start : (l : List ℕ) (from : ℕ) → from ≤ farthest → length l ≤ farthest → LinesPut l from from l 0
+  lines-start l from f h = let e : n - 0 ≡ n = omega arith in record { within = omega arith; done = []; put = put-none f h; text = rw e }
 
-  module _ {l₀ l : List ℕ} {from at k : ℕ} (w : RowsPut l₀ from at l k) where
-    pub rows-length : length l ≡ length l₀
-    rows-length = put-length (w .part .put)
+  module _ {l₀ l : List ℕ} {from at k : ℕ} (w : LinesPut l₀ from at l k) where
+    pub lines-length : length l ≡ length l₀
+    lines-length = put-length (w .put)
 
-    pub rows-turn : k < n → {r : ℕ} {l′ : List ℕ} → Put l at (rowLine target raster form rows n k) r l′ → RowsPut l₀ from r l′ (k + 1)
-    unfolding rowsText
-    rows-turn h q =
+    pub lines-turn : k < n → {r : ℕ} {l′ : List ℕ} → Put l at (line k) r l′ → LinesPut l₀ from r l′ (k + 1)
+    unfolding linesText
+    lines-turn h q =
         let left : n - k ≡ suc (n - suc k) = omega arith in
-        let t : w .part .done ++ (rowLine target raster form rows n k ++ rowsText target raster form rows n (suc k) (n - suc k)) ≡ rowsText target raster form rows n 0 n = rw left at (w .part .text) in
-        record {
-          within = omega arith;
-          part = record { done = w .part .done ++ rowLine target raster form rows n k; put = put-then (w .part .put) q; text = rw (add-one k, append-assoc) t };
-        }
+        let t : w .done ++ (line k ++ linesText line (suc k) (n - suc k)) ≡ linesText line 0 n = rw left at (w .text) in
+        record { within = omega arith; done = w .done ++ line k; put = put-then (w .put) q; text = rw (add-one k, append-assoc) t }
 
-    pub rows-end : n ≤ k → Put l₀ from (rowsText target raster form rows n 0 n) at l
-    unfolding rowsText
-    rows-end h =
+    pub lines-end : n ≤ k → Put l₀ from (linesText line 0 n) at l
+    unfolding linesText
+    lines-end h =
         let e : n - k ≡ 0 = omega arith in
-        let t : w .part .done ++ [] ≡ rowsText target raster form rows n 0 n = rw e at (w .part .text) in
-        rw (sym (append-nil (w .part .done)) ∙ t) at (w .part .put)
+        let t : w .done ++ [] ≡ linesText line 0 n = rw e at (w .text) in
+        rw (sym (append-nil (w .done)) ∙ t) at (w .put)

@@ -43,7 +43,7 @@ durationNumber target raster rows n k = pos (min (durationOf target raster rows 
 unfoldable pub saidRow : Edition → ℕ → List ℤ → ℕ → ℕ → List ℤ
 saidRow target raster rows n k = cond (isBlock rows k) (set (numbersAt rows k) 2 (durationNumber target raster rows n k)) (numbersAt rows k)
 
--- ---- The lines of the rows of a form, of m rows from row k on, each ended by LF
+-- ---- The lines of the rows of a form, each ended by LF
 unfoldable pub isOfForm : Form → List ℤ → ℕ → Bool
 isOfForm form rows k = sameZ (numberAt rows k 0) (pos (formNumber form))
 
@@ -53,6 +53,10 @@ lineText target form row = rowText (columnsOf target form) (drop 1 row) ++ (10 �
 unfoldable pub rowLine : Edition → ℕ → Form → List ℤ → ℕ → ℕ → List ℕ
 rowLine target raster form rows n k = cond (isOfForm form rows k) (lineText target form (saidRow target raster rows n k)) []
 
-unfoldable pub rowsText : Edition → ℕ → Form → List ℤ → ℕ → ℕ → ℕ → List ℕ
-rowsText target raster form rows n k zero = []
-rowsText target raster form rows n k (suc m) = rowLine target raster form rows n k ++ rowsText target raster form rows n (suc k) m
+-- lines one after another: of m rows from row k on, where `line` says what a row gives
+unfoldable pub linesText : (ℕ → List ℕ) → ℕ → ℕ → List ℕ
+linesText line k zero = []
+linesText line k (suc m) = line k ++ linesText line (suc k) m
+
+abbrev pub rowsText : Edition → ℕ → Form → List ℤ → ℕ → List ℕ
+rowsText target raster form rows n = linesText (rowLine target raster form rows n) 0 n

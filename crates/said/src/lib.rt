@@ -103,7 +103,7 @@ pub fn put_rows(
     rows: &[i64],
     n: usize,
 ) -> usize
-    ensures { λ r. ⌜ Put (now (out .entry)) at (rowsText target (raster .0) form (now (rows .entry)) n 0 n) r (now (out .exit)) ⌝ }
+    ensures { λ r. ⌜ Put (now (out .entry)) at (rowsText target (raster .0) form (now (rows .entry)) n) r (now (out .exit)) ⌝ }
 {
     let mut place = at;
     let mut k: usize = 0;

@@ -5,13 +5,13 @@ use mathlib.Core.List.{List}
 use mathlib.Core.Path.{_≡_}
 use native.Mathlib.Omega.{arith}
 use borrow.Author.Tests.{eq-eqb, ne-eqb, lt-ltb, le-ltb}
-use lib.Dec.{eqb}
+use lib.Dec.{eqb, ltb}
 use lib.IntN.{ℤ}
 use Rattle.unit.specs.declared.Rasters.{Rasters}
 use Rattle.shape.specs.declared.Edition.{Edition}
 use Rattle.shape.specs.declared.Edition.the-variants.{V13, V14}
 use Rattle.tables.specs.Tables.{firstSuch}
-use Rattle.sayable.specs.Sayable.{unsaid13, unsaid14, unsaidIn, unsaid, anyUnsaid, differ, differIn}
+use Rattle.sayable.specs.Sayable.{unsaid13, unsaid14, unsaidIn, differ, differIn}
 
 -- ---- one of two, and both
 module _ {a c : Bool} (b : Bool) where
@@ -56,12 +56,10 @@ module _ (target : Edition) (q s : Rasters) where
   unfolding differIn
   differ-14 e = rw e
 
--- ---- some row
-module _ (target : Edition) (q : Rasters) (rows : List ℤ) (n : ℕ) where
-  pub some-unsaid : (k : ℕ) → k < n → k ≡ firstSuch (unsaid target q rows) 0 n → true ≡ anyUnsaid target q rows n
-  unfolding anyUnsaid
-  some-unsaid k h p = rw (← p, lt-ltb k n h)
+-- ---- whether something holds for one of n rows
+module _ (holds : ℕ → Bool) (n : ℕ) where
+  pub some-such : (k : ℕ) → k < n → k ≡ firstSuch holds 0 n → true ≡ ltb (firstSuch holds 0 n) n
+  some-such k h p = rw (← p, lt-ltb k n h)
 
-  pub none-unsaid : n ≡ firstSuch (unsaid target q rows) 0 n → false ≡ anyUnsaid target q rows n
-  unfolding anyUnsaid
-  none-unsaid p = rw (← p, le-ltb n n (omega arith))
+  pub no-such : n ≡ firstSuch holds 0 n → false ≡ ltb (firstSuch holds 0 n) n
+  no-such p = rw (← p, le-ltb n n (omega arith))

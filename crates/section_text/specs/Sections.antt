@@ -1,6 +1,6 @@
 -- Sections of a restated text. "Text: VERSION, then the sections as listed above, DELAYS after ADC, empty ones left out, rows in file order, single
 -- spaces, LF, one blank line after each section".
-use Prim.Native.Nat.{ℕ, zero, suc, min}
+use Prim.Native.Nat.{ℕ, min}
 use mathlib.Core.Bool.{Bool, cond}
 use mathlib.Core.List.{List, [], _∷_, _++_}
 use lib.Dec.{ltb}
@@ -16,8 +16,8 @@ use Rattle.columns.specs.declared.Form.{Form}
 use Rattle.columns.specs.declared.Form.the-variants.{Block, Rf, Gradient, Trap, Adc, Delay, Entry, Trigger}
 use Rattle.tables.specs.Tables.{firstSuch}
 use Rattle.sayable.specs.Sayable.{nanosAt}
-use Rattle.durations.specs.Durations.{isFirst, delayNumber}
-use Rattle.said.specs.Said.{isOfForm, lineText, rowsText}
+use Rattle.durations.specs.Durations.{isFirst, usesIn, delayNumber}
+use Rattle.said.specs.Said.{isOfForm, lineText, linesText, rowsText}
 
 -- ---- [VERSION], major 1, minor 3 or 4, revision 1, and a blank line
 abbrev pub minorOf : Edition → ℕ
@@ -45,7 +45,7 @@ unfoldable pub hasForm : Form → List ℤ → ℕ → Bool
 hasForm form rows n = ltb (firstSuch (isOfForm form rows) 0 n) n
 
 unfoldable pub sectionText : Edition → ℕ → Form → List ℤ → ℕ → List ℕ
-sectionText target raster form rows n = cond (hasForm form rows n) (headText form ++ (rowsText target raster form rows n 0 n ++ (10 ∷ []))) []
+sectionText target raster form rows n = cond (hasForm form rows n) (headText form ++ (rowsText target raster form rows n ++ (10 ∷ []))) []
 
 -- ---- DELAYS for 1.3.1: a row for each first use, its number and its µs
 unfoldable pub wholeMicros : InMicros → ℕ
@@ -62,13 +62,12 @@ delayRow rows n k = pos (formNumber Delay) ∷ pos (min (delayNumber rows n k) l
 unfoldable pub delayLine : List ℤ → ℕ → ℕ → List ℕ
 delayLine rows n k = cond (isFirst rows n k) (lineText V13 Delay (delayRow rows n k)) []
 
--- of m rows from row k on
-unfoldable pub delaysText : List ℤ → ℕ → ℕ → ℕ → List ℕ
-delaysText rows n k zero = []
-delaysText rows n k (suc m) = delayLine rows n k ++ delaysText rows n (suc k) m
+abbrev pub delaysText : List ℤ → ℕ → List ℕ
+delaysText rows n = linesText (delayLine rows n) 0 n
 
+-- whether there is a first use among n rows
 unfoldable pub hasDelays : List ℤ → ℕ → Bool
-hasDelays rows n = ltb (firstSuch (isFirst rows n) 0 n) n
+hasDelays rows n = ltb 0 (usesIn rows n 0 n)
 
 unfoldable pub delaySection : List ℤ → ℕ → List ℕ
-delaySection rows n = cond (hasDelays rows n) (headText Delay ++ (delaysText rows n 0 n ++ (10 ∷ []))) []
+delaySection rows n = cond (hasDelays rows n) (headText Delay ++ (delaysText rows n ++ (10 ∷ []))) []

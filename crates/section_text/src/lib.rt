@@ -102,7 +102,7 @@ fn put_delay(out: &mut [u8], at: usize, rows: &[i64], n: usize, k: usize) -> usi
 
 // Writes the delay rows of n rows.
 fn put_delays(out: &mut [u8], at: usize, rows: &[i64], n: usize) -> usize
-    ensures { λ r. ⌜ Put (now (out .entry)) at (delaysText (now (rows .entry)) n 0 n) r (now (out .exit)) ⌝ }
+    ensures { λ r. ⌜ Put (now (out .entry)) at (delaysText (now (rows .entry)) n) r (now (out .exit)) ⌝ }
 {
     let mut place = at;
     let mut k: usize = 0;
@@ -117,14 +117,7 @@ fn put_delays(out: &mut [u8], at: usize, rows: &[i64], n: usize) -> usize
 fn has_delays(rows: &[i64], n: usize) -> bool
     ensures { λ r. ⌜ r ≡ hasDelays (now (rows .entry)) n ⌝ }
 {
-    let mut k: usize = 0;
-    while k < n {
-        if durations::is_first(rows, n, k) {
-            return true;
-        }
-        k += 1;
-    }
-    false
+    0 < durations::uses_in(rows, n, n)
 }
 
 // Writes DELAYS for 1.3.1: one row for each distinct nonzero duration, or nothing where there is none.

@@ -19,22 +19,15 @@ use Rattle.places.specs.Places.{fresh}
 use Rattle.grammar.specs.Parts.{noPart}
 use Rattle.grammar.specs.Steps.{stepOf}
 use Rattle.grammar.proofs.Parts.{Holds, none-holds, whole-ends, by-lines}
-use Rattle.places.specs.declared.Found.{Found}
 use Rattle.places.specs.declared.State.{State}
 use Rattle.places.specs.declared.Stepped.{Stepped}
-use Rattle.file.specs.Whole.{isFault, isRow, rowCount}
+use Rattle.file.specs.Whole.{isFault, rowCount}
 use Rattle.stored.specs.Shapes.{endsShape, valuesText, isShape, storedFrom, storedOf}
 use Rattle.stored.specs.Places.{valuesPart, storedPlaceFrom, storedPlace}
-use Rattle.file.proofs.Laying.{row-one, row-none, count-most}
+use Rattle.file.proofs.Laying.{row-zero, row-some}
 use Rattle.file.proofs.Walking.{Within, within-start, within-turn}
 
 -- ---- the row of a shape
-row-zero : (f : Found) → rowCount f ≡ 0 → isRow f ≡ false
-row-zero f e = row-none f (λ (q : rowCount f ≡ 1). omega arith)
-
-row-some : (f : Found) → (rowCount f ≡ 0 → ⊥) → isRow f ≡ true
-row-some f n = let m = count-most f in row-one f (omega arith)
-
 module _ (id : ℤ) (s : Stepped) (count : ℕ) (p : count ≡ rowCount (s .found)) where
   pub shape-none : count ≡ 0 → false ≡ isShape id s
   unfolding isShape

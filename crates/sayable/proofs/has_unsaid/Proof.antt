@@ -5,8 +5,8 @@ use mathlib.Core.Path.{_≡_, sym, _∙_}
 use native.Mathlib.Omega.{arith}
 use Rattle.tables.specs.Tables.{firstSuch}
 use Rattle.tables.proofs.Found.{such-start, such-here, such-further, such-none}
-use Rattle.sayable.specs.Sayable.{unsaid}
-use Rattle.sayable.proofs.Saying.{some-unsaid, none-unsaid}
+use Rattle.sayable.specs.Sayable.{unsaid, anyUnsaid}
+use Rattle.sayable.proofs.Saying.{some-such, no-such}
 use Rattle.sayable.proofs.has_unsaid.Statement.{statement}
 use Rattle.sayable.proofs.has_unsaid.Tie as tie
 
@@ -23,7 +23,8 @@ is-unsaid-requires : tie.Need-is-unsaid-requires Inv-loop μ-loop
 is-unsaid-requires c κs = search needs
 
 returns : tie.Need-returns Inv-loop μ-loop
-returns c = some-unsaid _ _ _ _ _ (c .before .before .loop-test .taken) (such-here _ _ _ (c .before .before .loop-test .taken) (sym (c .before .is-unsaid .ensures) ∙ c .if1 .taken) ∙ c .before .before .before .loop .inv .1)
+unfolding anyUnsaid
+returns c = some-such _ _ _ (c .before .before .loop-test .taken) (such-here _ _ _ (c .before .before .loop-test .taken) (sym (c .before .is-unsaid .ensures) ∙ c .if1 .taken) ∙ c .before .before .before .loop .inv .1)
 
 add-k : tie.Need-add-k Inv-loop μ-loop
 add-k c = search needs
@@ -35,7 +36,8 @@ loop-again : tie.Need-loop-again Inv-loop μ-loop
 loop-again c = (omega (arith, c .before .before .loop-test .taken), such-further _ _ _ (c .before .before .loop-test .taken) (sym (c .before .is-unsaid .ensures) ∙ c .if1 .left) ∙ c .before .before .before .loop .inv .1)
 
 returns-2 : tie.Need-returns-2 Inv-loop μ-loop
-returns-2 c = none-unsaid _ _ _ _ (such-none _ _ _ (c .before .loop .inv .0) (c .loop-test .left) ∙ c .before .loop .inv .1)
+unfolding anyUnsaid
+returns-2 c = no-such _ _ (such-none _ _ _ (c .before .loop .inv .0) (c .loop-test .left) ∙ c .before .loop .inv .1)
 
 pub has-unsaid-spec : {M : Type 1} → statement M
 has-unsaid-spec =

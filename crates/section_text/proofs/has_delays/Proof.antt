@@ -1,55 +1,18 @@
--- `section_text::has_delays` meets its contract. The loop's invariant: the first such row is the first of those that are left. Assumes nothing.
-use borrow.Author.Needs.{needs}
-use Prim.Native.Nat.{_-_, _≤_}
-use mathlib.Core.Path.{_≡_, sym, _∙_}
-use native.Mathlib.Omega.{arith}
-use Rattle.tables.specs.Tables.{firstSuch}
-use Rattle.tables.proofs.Found.{such-start, such-here, such-further, such-none}
-use Rattle.section_text.proofs.Putting.{some-such, no-such}
-use Rattle.durations.specs.Durations.{isFirst}
+-- `section_text::has_delays` meets its contract. Assumes nothing.
+use Prim.Native.Nat.{ℕ}
+use lib.Dec.{ltb}
+use mathlib.Core.Path.{ap}
 use Rattle.section_text.specs.Sections.{hasDelays}
+use borrow.Author.Needs.{needs}
 use Rattle.section_text.proofs.has_delays.Statement.{statement}
 use Rattle.section_text.proofs.has_delays.Tie as tie
 
-abbrev Inv-loop : tie.InvT-loop
-Inv-loop rows n k₀ k = (k ≤ n) × (firstSuch (isFirst rows n) k (n - k) ≡ firstSuch (isFirst rows n) 0 n)
+uses-in-requires : tie.Need-uses-in-requires
+uses-in-requires c κs = search needs
 
-abbrev μ-loop : tie.MeasureT-loop
-μ-loop rows n k₀ k = n - k
-
-loop-holds : tie.Need-loop-holds Inv-loop μ-loop
-loop-holds c = (omega arith, such-start _ _)
-
-is-first-requires : tie.Need-is-first-requires Inv-loop μ-loop
-is-first-requires c κs = search needs
-
-returns : tie.Need-returns Inv-loop μ-loop
+returns : tie.Need-returns
 unfolding hasDelays
-returns c = some-such _ _ _ (c .before .before .loop-test .taken) (such-here _ _ _ (c .before .before .loop-test .taken) (sym (c .before .is-first .ensures) ∙ c .if1 .taken) ∙ c .before .before .before .loop .inv .1)
-
-add-k : tie.Need-add-k Inv-loop μ-loop
-add-k c = search needs
-
-loop-less : tie.Need-loop-less Inv-loop μ-loop
-loop-less c = omega (arith, c .before .before .loop-test .taken)
-
-loop-again : tie.Need-loop-again Inv-loop μ-loop
-loop-again c = (omega (arith, c .before .before .loop-test .taken), such-further _ _ _ (c .before .before .loop-test .taken) (sym (c .before .is-first .ensures) ∙ c .if1 .left) ∙ c .before .before .before .loop .inv .1)
-
-returns-2 : tie.Need-returns-2 Inv-loop μ-loop
-unfolding hasDelays
-returns-2 c = no-such _ _ (such-none _ _ _ (c .before .loop .inv .0) (c .loop-test .left) ∙ c .before .loop .inv .1)
+returns c = ap (λ (u : ℕ). ltb 0 u) (c .uses-in .ensures)
 
 pub has-delays-spec : {M : Type 1} → statement M
-has-delays-spec =
-    tie.close
-    (tie.spec
-    Inv-loop
-    μ-loop
-    loop-holds
-    is-first-requires
-    returns
-    add-k
-    loop-less
-    loop-again
-    returns-2)
+has-delays-spec = tie.close (tie.spec uses-in-requires returns)

@@ -5,7 +5,7 @@ use mathlib.Core.Path.{_≡_, sym, _∙_}
 use native.Mathlib.Omega.{arith}
 use Rattle.tables.specs.Tables.{firstSuch}
 use Rattle.tables.proofs.Found.{such-start, such-here, such-further, such-none}
-use Rattle.section_text.proofs.Putting.{some-such, no-such}
+use Rattle.sayable.proofs.Saying.{some-such, no-such}
 use Rattle.said.specs.Said.{isOfForm}
 use Rattle.section_text.specs.Sections.{hasForm}
 use Rattle.section_text.proofs.has_form.Statement.{statement}
