@@ -18,7 +18,7 @@ use Rattle.columns.specs.declared.Form.{Form}
 use Rattle.tables.specs.Tables.{numberAt}
 use Rattle.sayable.specs.Sayable.{nanosAt}
 use Rattle.durations.specs.Durations.{delayNumber}
-use Rattle.said.specs.Said.{numbersFrom, numbersAt, stepsOf, durationOf, durationNumber, saidRow, isOfForm, lineText, rowLine, linesText}
+use Rattle.said.specs.Said.{numbersFrom, numbersAt, stepsOf, durationOf, durationNumber, saidRow, isOfForm, lineText, rowLine, linesText, sectionOf}
 
 -- ---- the numbers of a row: those so far, and those that are left
 pub record Copying (rows : List ℤ) (k : ℕ) (cells : List ℤ) (c : ℕ) : Type 0 where
@@ -113,3 +113,12 @@ module _ (line : ℕ → List ℕ) (n : ℕ) where
         let e : n - k ≡ 0 = omega arith in
         let t : w .done ++ [] ≡ linesText line 0 n = rw e at (w .text) in
         rw (sym (append-nil (w .done)) ∙ t) at (w .put)
+
+-- ---- a section: its head, its lines and a blank line, or nothing
+module _ (b : Bool) (head lines : List ℕ) where
+  pub section-some : b ≡ true → {l l₁ l₂ l₃ : List ℕ} {at r₁ r₂ r₃ : ℕ} → Put l at head r₁ l₁ → Put l₁ r₁ lines r₂ l₂ → Put l₂ r₂ (10 ∷ []) r₃ l₃
+      → Put l at (sectionOf b head lines) r₃ l₃
+  section-some e x y z = rw e (put-then x (put-then y z))
+
+  pub section-none : b ≡ false → [] ≡ sectionOf b head lines
+  section-none e = rw e

@@ -2,9 +2,10 @@
 use Prim.Native.Nat.{ℕ, zero, suc, min}
 use mathlib.Core.Bool.{Bool, cond}
 use mathlib.Core.List.{List, [], _∷_, _++_}
+use lib.Dec.{ltb}
 use lib.IntN.{ℤ, pos}
 use lib.ListN.{drop, set}
-use Rattle.signed.specs.Signed.{sameZ, largest}
+use Rattle.signed.specs.Signed.{largest}
 use Rattle.unit.specs.Time.{onRaster}
 use Rattle.unit.specs.declared.OnRaster.{OnRaster}
 use Rattle.unit.specs.declared.OnRaster.the-variants.{Steps, Off}
@@ -14,9 +15,9 @@ use Rattle.columns.specs.Columns.{columnsOf, formNumber}
 use Rattle.columns.specs.Rows.{rowWidth}
 use Rattle.columns.specs.declared.Form.{Form}
 use Rattle.row_text.specs.Printed.{rowText}
-use Rattle.tables.specs.Tables.{numberAt}
+use Rattle.tables.specs.Tables.{firstSuch, numberAt}
 use Rattle.blocks.specs.Blocks.{isBlock}
-use Rattle.sayable.specs.Sayable.{nanosAt}
+use Rattle.sayable.specs.Sayable.{isKind, nanosAt}
 use Rattle.durations.specs.Durations.{delayNumber}
 
 -- m numbers of row k from number c on, and all twelve
@@ -44,8 +45,8 @@ unfoldable pub saidRow : Edition → ℕ → List ℤ → ℕ → ℕ → List �
 saidRow target raster rows n k = cond (isBlock rows k) (set (numbersAt rows k) 2 (durationNumber target raster rows n k)) (numbersAt rows k)
 
 -- ---- The lines of the rows of a form, each ended by LF
-unfoldable pub isOfForm : Form → List ℤ → ℕ → Bool
-isOfForm form rows k = sameZ (numberAt rows k 0) (pos (formNumber form))
+abbrev pub isOfForm : Form → List ℤ → ℕ → Bool
+isOfForm form rows k = isKind rows k (pos (formNumber form))
 
 unfoldable pub lineText : Edition → Form → List ℤ → List ℕ
 lineText target form row = rowText (columnsOf target form) (drop 1 row) ++ (10 ∷ [])
@@ -60,3 +61,11 @@ linesText line k (suc m) = line k ++ linesText line (suc k) m
 
 abbrev pub rowsText : Edition → ℕ → Form → List ℤ → ℕ → List ℕ
 rowsText target raster form rows n = linesText (rowLine target raster form rows n) 0 n
+
+-- ---- "empty ones left out .. one blank line after each section": whether there is a row of a kind among n, and a section with its head, its lines
+-- and a blank line; nothing where it has no rows
+unfoldable pub hasKind : ℤ → List ℤ → ℕ → Bool
+hasKind kind rows n = ltb (firstSuch (λ k. isKind rows k kind) 0 n) n
+
+abbrev pub sectionOf : Bool → List ℕ → List ℕ → List ℕ
+sectionOf some head lines = cond some (head ++ (lines ++ (10 ∷ []))) []

@@ -1,14 +1,14 @@
 // Rows as a target edition says them, written out section by section: each block with its duration in the target's own way.
 ghost use mathlib.Core.Path.{_≡_};
 ghost use Rattle.output.specs.Over.{Put};
-ghost use Rattle.said.specs.Said.{numbersAt, stepsOf, durationOf, durationNumber, saidRow, isOfForm, lineText, rowLine, rowsText};
+ghost use Rattle.said.specs.Said.{numbersAt, stepsOf, durationOf, durationNumber, saidRow, isOfForm, lineText, rowLine, rowsText, hasKind};
 use columns::Form;
 use shape::Edition;
 use unit::Nanos;
 use unit::OnRaster;
 
 // The twelve numbers of row k.
-fn numbers_at(rows: &[i64], k: usize) -> [i64; 12]
+pub fn numbers_at(rows: &[i64], k: usize) -> [i64; 12]
     ensures { λ r. ⌜ r ≡ numbersAt (now (rows .entry)) k ⌝ }
 {
     let mut cells = [0i64; 12];
@@ -59,10 +59,10 @@ pub fn said_row(target: Edition, raster: Nanos, rows: &[i64], n: usize, k: usize
 }
 
 // Is row k of a form?
-pub fn is_of_form(form: Form, rows: &[i64], k: usize) -> bool
+fn is_of_form(form: Form, rows: &[i64], k: usize) -> bool
     ensures { λ r. ⌜ r ≡ isOfForm form (now (rows .entry)) k ⌝ }
 {
-    signed::same(tables::number(rows, k, 0), columns::form_number(form))
+    sayable::is_kind(rows, k, columns::form_number(form))
 }
 
 // Writes a row by the columns of its form, and ends the line.
@@ -112,4 +112,18 @@ pub fn put_rows(
         k += 1;
     }
     place
+}
+
+// Is there a row of a kind among n rows?
+pub fn has_kind(kind: i64, rows: &[i64], n: usize) -> bool
+    ensures { λ r. ⌜ r ≡ hasKind kind (now (rows .entry)) n ⌝ }
+{
+    let mut k: usize = 0;
+    while k < n {
+        if sayable::is_kind(rows, k, kind) {
+            return true;
+        }
+        k += 1;
+    }
+    false
 }

@@ -8,7 +8,7 @@ use unit::OnRaster;
 use unit::Rasters;
 
 // Is row k of a kind?
-fn is_kind(rows: &[i64], k: usize, kind: i64) -> bool
+pub fn is_kind(rows: &[i64], k: usize, kind: i64) -> bool
     ensures { λ r. ⌜ r ≡ isKind (now (rows .entry)) k kind ⌝ }
 {
     signed::same(tables::number(rows, k, 0), kind)

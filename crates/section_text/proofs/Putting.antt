@@ -2,41 +2,35 @@
 use Prim.Native.Nat.{ℕ, _-_, min}
 use mathlib.Core.Bool.{Bool, true, false}
 use mathlib.Core.List.{List, [], _∷_}
-use mathlib.Core.Path.{_≡_}
+use mathlib.Core.Path.{_≡_, sym, _∙_}
 use lib.IntN.{ℤ, pos}
 use Rattle.output.specs.Over.{Put}
-use Rattle.output.proofs.Over.{put-then}
 use Rattle.unit.specs.Time.{inMicros}
 use Rattle.shape.specs.declared.Edition.{Edition}
 use Rattle.shape.specs.declared.Edition.the-variants.{V13}
+use Rattle.columns.specs.Columns.{formNumber}
 use Rattle.columns.specs.declared.Form.{Form}
 use Rattle.columns.specs.declared.Form.the-variants.{Delay}
 use Rattle.sayable.specs.Sayable.{nanosAt}
 use Rattle.signed.specs.Signed.{largest}
 use Rattle.durations.specs.Durations.{isFirst, delayNumber}
-use Rattle.said.specs.Said.{lineText, rowsText}
-use Rattle.section_text.specs.Sections.{headText, hasForm, sectionText, wholeMicros, microsAt, delayRow, delayLine, delaysText, hasDelays, delaySection}
+use Rattle.said.specs.Said.{lineText, rowsText, hasKind}
+use Rattle.said.proofs.Saying.{section-some, section-none}
+use Rattle.section_text.specs.Sections.{headText, sectionText, wholeMicros, microsAt, delayRow, delayLine}
 
--- ---- a section
-module _ (target : Edition) (raster : ℕ) (form : Form) (rows : List ℤ) (n : ℕ) (b : Bool) (p : b ≡ hasForm form rows n) where
-  pub section-some : b ≡ true → {l l₁ l₂ l₃ : List ℕ} {at r₁ r₂ r₃ : ℕ} → Put l at (headText form) r₁ l₁ → Put l₁ r₁ (rowsText target raster form rows n) r₂ l₂
+-- ---- the section of a form
+module _ (target : Edition) (raster : ℕ) (form : Form) (rows : List ℤ) (n : ℕ) (b : Bool) (z : ℤ) (q : z ≡ pos (formNumber form)) (p : b ≡ hasKind z rows n) where
+  same-kind : hasKind (pos (formNumber form)) rows n ≡ b
+  same-kind = rw (← q) (sym p)
+
+  pub form-some : b ≡ true → {l l₁ l₂ l₃ : List ℕ} {at r₁ r₂ r₃ : ℕ} → Put l at (headText form) r₁ l₁ → Put l₁ r₁ (rowsText target raster form rows n) r₂ l₂
       → Put l₂ r₂ (10 ∷ []) r₃ l₃ → Put l at (sectionText target raster form rows n) r₃ l₃
   unfolding sectionText
-  section-some e x y z = rw (← p, e) (put-then x (put-then y z))
+  form-some e x y z = section-some _ _ _ (same-kind ∙ e) x y z
 
-  pub section-none : b ≡ false → [] ≡ sectionText target raster form rows n
+  pub form-none : b ≡ false → [] ≡ sectionText target raster form rows n
   unfolding sectionText
-  section-none e = rw (← p, e)
-
-module _ (rows : List ℤ) (n : ℕ) (b : Bool) (p : b ≡ hasDelays rows n) where
-  pub delays-some : b ≡ true → {l l₁ l₂ l₃ : List ℕ} {at r₁ r₂ r₃ : ℕ} → Put l at (headText Delay) r₁ l₁ → Put l₁ r₁ (delaysText rows n) r₂ l₂
-      → Put l₂ r₂ (10 ∷ []) r₃ l₃ → Put l at (delaySection rows n) r₃ l₃
-  unfolding delaySection
-  delays-some e x y z = rw (← p, e) (put-then x (put-then y z))
-
-  pub delays-none : b ≡ false → [] ≡ delaySection rows n
-  unfolding delaySection
-  delays-none e = rw (← p, e)
+  form-none e = section-none _ (headText form) (rowsText target raster form rows n) (same-kind ∙ e)
 
 -- ---- a delay row
 module _ (rows : List ℤ) (n k : ℕ) (b : Bool) (p : b ≡ isFirst rows n k) where

@@ -2,7 +2,7 @@
 -- spaces, LF, one blank line after each section".
 use Prim.Native.Nat.{ℕ, min}
 use mathlib.Core.Bool.{Bool, cond}
-use mathlib.Core.List.{List, [], _∷_, _++_}
+use mathlib.Core.List.{List, [], _∷_}
 use lib.Dec.{ltb}
 use lib.IntN.{ℤ, pos}
 use Rattle.unit.specs.Time.{inMicros}
@@ -14,10 +14,9 @@ use Rattle.signed.specs.Signed.{largest}
 use Rattle.columns.specs.Columns.{formNumber}
 use Rattle.columns.specs.declared.Form.{Form}
 use Rattle.columns.specs.declared.Form.the-variants.{Block, Rf, Gradient, Trap, Adc, Delay, Entry, Trigger}
-use Rattle.tables.specs.Tables.{firstSuch}
 use Rattle.sayable.specs.Sayable.{nanosAt}
 use Rattle.durations.specs.Durations.{isFirst, usesIn, delayNumber}
-use Rattle.said.specs.Said.{isOfForm, lineText, linesText, rowsText}
+use Rattle.said.specs.Said.{lineText, linesText, rowsText, hasKind, sectionOf}
 
 -- ---- [VERSION], major 1, minor 3 or 4, revision 1, and a blank line
 abbrev pub minorOf : Edition → ℕ
@@ -40,12 +39,9 @@ headText Delay = 91 ∷ 68 ∷ 69 ∷ 76 ∷ 65 ∷ 89 ∷ 83 ∷ 93 ∷ 10 ∷ 
 headText Entry = 91 ∷ 69 ∷ 88 ∷ 84 ∷ 69 ∷ 78 ∷ 83 ∷ 73 ∷ 79 ∷ 78 ∷ 83 ∷ 93 ∷ 10 ∷ []
 headText Trigger = []
 
--- ---- The section of a form: its head, its rows and a blank line, if there are rows of this form among n
-unfoldable pub hasForm : Form → List ℤ → ℕ → Bool
-hasForm form rows n = ltb (firstSuch (isOfForm form rows) 0 n) n
-
+-- ---- The section of a form, if there are rows of this form among n
 unfoldable pub sectionText : Edition → ℕ → Form → List ℤ → ℕ → List ℕ
-sectionText target raster form rows n = cond (hasForm form rows n) (headText form ++ (rowsText target raster form rows n ++ (10 ∷ []))) []
+sectionText target raster form rows n = sectionOf (hasKind (pos (formNumber form)) rows n) (headText form) (rowsText target raster form rows n)
 
 -- ---- DELAYS for 1.3.1: a row for each first use, its number and its µs
 unfoldable pub wholeMicros : InMicros → ℕ
@@ -70,4 +66,4 @@ unfoldable pub hasDelays : List ℤ → ℕ → Bool
 hasDelays rows n = ltb 0 (usesIn rows n 0 n)
 
 unfoldable pub delaySection : List ℤ → ℕ → List ℕ
-delaySection rows n = cond (hasDelays rows n) (headText Delay ++ (delaysText rows n ++ (10 ∷ []))) []
+delaySection rows n = sectionOf (hasDelays rows n) (headText Delay) (delaysText rows n)

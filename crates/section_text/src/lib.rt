@@ -4,7 +4,7 @@ ghost use Prim.Native.Nat.{min};
 ghost use lib.IntN.{pos};
 ghost use Rattle.output.specs.Over.{Put};
 ghost use Rattle.signed.specs.Signed.{largest};
-ghost use Rattle.section_text.specs.Sections.{versionText, headText, hasForm, sectionText, wholeMicros, delayLine, delaysText, hasDelays, delaySection};
+ghost use Rattle.section_text.specs.Sections.{versionText, headText, sectionText, wholeMicros, delayLine, delaysText, hasDelays, delaySection};
 use columns::Form;
 use shape::Edition;
 use unit::InMicros;
@@ -36,20 +36,6 @@ fn put_head(out: &mut [u8], at: usize, form: Form) -> usize
     }
 }
 
-// Is there a row of a form among n rows?
-pub fn has_form(form: Form, rows: &[i64], n: usize) -> bool
-    ensures { λ r. ⌜ r ≡ hasForm form (now (rows .entry)) n ⌝ }
-{
-    let mut k: usize = 0;
-    while k < n {
-        if said::is_of_form(form, rows, k) {
-            return true;
-        }
-        k += 1;
-    }
-    false
-}
-
 // Writes the section of a form, as the target says it: its head, its rows and a blank line, or nothing where there is no row.
 pub fn put_section(
     out: &mut [u8],
@@ -62,7 +48,7 @@ pub fn put_section(
 ) -> usize
     ensures { λ r. ⌜ Put (now (out .entry)) at (sectionText target (raster .0) form (now (rows .entry)) n) r (now (out .exit)) ⌝ }
 {
-    if has_form(form, rows, n) {
+    if said::has_kind(columns::form_number(form), rows, n) {
         let body = put_head(out, at, form);
         let end = said::put_rows(out, body, target, raster, form, rows, n);
         return output::put_byte(out, end, 10);

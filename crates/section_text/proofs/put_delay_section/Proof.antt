@@ -1,5 +1,7 @@
 -- `section_text::put_delay_section` meets its contract. Assumes nothing.
-use Rattle.section_text.proofs.Putting.{delays-some, delays-none}
+use mathlib.Core.Path.{sym, _∙_}
+use Rattle.said.proofs.Saying.{section-some, section-none}
+use Rattle.section_text.specs.Sections.{delaySection}
 use borrow.Author.Needs.{needs}
 use Rattle.section_text.proofs.put_delay_section.Statement.{statement}
 use Rattle.section_text.proofs.put_delay_section.Tie as tie
@@ -20,8 +22,9 @@ same-length : tie.Need-same-length
 same-length c = search needs
 
 returns : tie.Need-returns
+unfolding delaySection
 returns c = let z = c .before .before in let y = z .before .before .before .before in let x = y .before .before .before .before in let t = x .before .before in
-    delays-some _ _ _ (t .before .has-delays .ensures) (t .if1 .taken) (x .put-head .ensures) (y .put-delays .ensures) (z .put-byte .ensures)
+    section-some _ _ _ (sym (t .before .has-delays .ensures) ∙ t .if1 .taken) (x .put-head .ensures) (y .put-delays .ensures) (z .put-byte .ensures)
 
 slice-aggregate-put-bytes : tie.Need-slice-aggregate-put-bytes
 slice-aggregate-put-bytes c = search needs
@@ -33,8 +36,9 @@ same-length-2 : tie.Need-same-length-2
 same-length-2 c = search needs
 
 returns-2 : tie.Need-returns-2
+unfolding delaySection
 returns-2 c = let p = c .before .before in let e = p .before .before .before in
-    rw (← delays-none _ _ _ (e .before .has-delays .ensures) (e .if1 .left)) (p .put-bytes .ensures)
+    rw (← section-none _ _ _ (sym (e .before .has-delays .ensures) ∙ e .if1 .left)) (p .put-bytes .ensures)
 
 pub put-delay-section-spec : {M : Type 1} → statement M
 put-delay-section-spec =
