@@ -1,0 +1,2 @@
+-- Laws of the extensions of a restated text.
+pub mod Listing

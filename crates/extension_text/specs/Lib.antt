@@ -1,0 +1,2 @@
+-- What must be believed of the extensions of a restated text.
+pub mod Extensions
