@@ -1,0 +1,2 @@
+-- Laws of what restating asks of its source.
+pub mod Asking
