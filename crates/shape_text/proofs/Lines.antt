@@ -1,6 +1,6 @@
 -- Lines laid over an output one after another, and how many there are. Assumes nothing.
 use Prim.Native.Nat.{ℕ, suc, _+_, _-_, _*_, _≤_, _<_}
-use mathlib.Core.List.{List, [], _∷_, _++_, append-assoc, append-nil}
+use mathlib.Core.List.{List, [], _∷_, _++_, append-assoc}
 use mathlib.Core.Path.{_≡_, refl, ap, _∙_}
 use native.Mathlib.Numerals.{add-one}
 use native.Mathlib.Omega.{arith}
@@ -8,7 +8,8 @@ use lib.IntN.{ℤ, pos}
 use lib.ListN.{length, drop, getD, drop-of-length-le}
 use lib.Seq.{drop-cons}
 use Rattle.output.specs.Over.{Put, farthest}
-use Rattle.output.proofs.Over.{put-then, put-none, put-length}
+use Rattle.output.proofs.Over.{put-then}
+use Rattle.output.proofs.Partly.{Partly, partly-none, partly-length, partly-more, partly-all}
 use Rattle.print.specs.Printed.{sampleText, digitsOf}
 use Rattle.shape_text.specs.Written.{Run, endedLines, runLines, runsLines, packedLines, plainLines}
 use Rattle.shape_text.specs.Inside.{stepAt, runsFrom, RunAt}
@@ -38,40 +39,19 @@ put-repeated d n h k f p q s t =
     rw (e, ended-append (sampleText d ∷ []) (sampleText d ∷ digitsOf (n - 2) ∷ []), ended-append (sampleText d ∷ []) (digitsOf (n - 2) ∷ []))
     (rw (← f) (put-then p (put-then q (put-line s t))))
 
--- ---- a text that is written part by part: what was written and what is left make up the whole
-pub record Partly (l₀ whole rest : List ℕ) (at : ℕ) (l : List ℕ) : Type 0 where
-  pub done : List ℕ
-  pub put : Put l₀ 0 done at l
-  pub text : done ++ rest ≡ whole
-
-pub partly-none : {l whole : List ℕ} → length l ≤ farthest → Partly l whole whole 0 l
-partly-none h = record { done = []; put = put-none (omega arith) h; text = refl }
-
-module _ {l₀ whole rest : List ℕ} {at : ℕ} {l : List ℕ} (p : Partly l₀ whole rest at l) where
-  pub partly-more : {l′ : List ℕ} {r : ℕ} (t rest′ : List ℕ) → rest ≡ t ++ rest′ → Put l at t r l′ → Partly l₀ whole rest′ r l′
-  partly-more t rest′ e q =
-      record {
-        done = p .done ++ t;
-        put = put-then (p .put) q;
-        text = rw (append-assoc, ← e) (p .text);
-      }
-
-  pub partly-all : rest ≡ [] → Put l₀ 0 whole at l
-  partly-all e = let w : p .done ≡ whole = rw (e, append-nil) at (p .text) in rw w at (p .put)
-
 -- ---- put_plain
-pub record PlainTo (l₀ : List ℕ) (zs : List ℤ) (i at : ℕ) (l : List ℕ) : Type 0 where
+pub record PlainTo (l₀ : List ℕ) (from : ℕ) (zs : List ℤ) (i at : ℕ) (l : List ℕ) : Type 0 where
   pub inside : i ≤ length zs
-  pub part : Partly l₀ (endedLines (plainLines zs)) (endedLines (plainLines (drop i zs))) at l
+  pub part : Partly l₀ from (endedLines (plainLines zs)) (endedLines (plainLines (drop i zs))) at l
 
-pub plain-none : (l : List ℕ) (zs : List ℤ) → length l ≤ farthest → PlainTo l zs 0 0 l
-plain-none l zs h = record { inside = omega arith; part = partly-none h }
+pub plain-none : (l : List ℕ) (from : ℕ) (zs : List ℤ) → from ≤ farthest → length l ≤ farthest → PlainTo l from zs 0 from l
+plain-none l from zs f h = record { inside = omega arith; part = partly-none f h }
 
-module _ {l₀ : List ℕ} {zs : List ℤ} {i at : ℕ} {l : List ℕ} (p : PlainTo l₀ zs i at l) where
+module _ {l₀ : List ℕ} {zs : List ℤ} {from i at : ℕ} {l : List ℕ} (p : PlainTo l₀ from zs i at l) where
   pub plain-length : length l ≡ length l₀
-  plain-length = put-length (p .part .put)
+  plain-length = partly-length (p .part)
 
-  pub plain-more : {l′ : List ℕ} {r : ℕ} {z : ℤ} → i < length zs → z ≡ getD zs i (pos 0) → Put l at (endedLines (sampleText z ∷ [])) r l′ → PlainTo l₀ zs (i + 1) r l′
+  pub plain-more : {l′ : List ℕ} {r : ℕ} {z : ℤ} → i < length zs → z ≡ getD zs i (pos 0) → Put l at (endedLines (sampleText z ∷ [])) r l′ → PlainTo l₀ from zs (i + 1) r l′
   unfolding plainLines
   plain-more h e q =
       record {
@@ -82,28 +62,28 @@ module _ {l₀ : List ℕ} {zs : List ℤ} {i at : ℕ} {l : List ℕ} (p : Plai
             (rw (drop-cons zs i (pos 0) h) (ended-append (sampleText (getD zs i (pos 0)) ∷ []) (plainLines (drop (suc i) zs)))) (rw e at q));
       }
 
-  pub plain-all : length zs ≤ i → Put l₀ 0 (endedLines (plainLines zs)) at l
+  pub plain-all : length zs ≤ i → Put l₀ from (endedLines (plainLines zs)) at l
   unfolding plainLines endedLines
   plain-all h = partly-all (p .part) (rw (drop-of-length-le zs h))
 
 -- ---- put_packed
-pub record PackedTo (l₀ : List ℕ) (zs : List ℤ) (i at : ℕ) (l : List ℕ) : Type 0 where
+pub record PackedTo (l₀ : List ℕ) (from : ℕ) (zs : List ℤ) (i at : ℕ) (l : List ℕ) : Type 0 where
   pub inside : i ≤ length zs
-  pub part : Partly l₀ (endedLines (packedLines zs)) (endedLines (runsLines (runsFrom zs i))) at l
+  pub part : Partly l₀ from (endedLines (packedLines zs)) (endedLines (runsLines (runsFrom zs i))) at l
 
-pub packed-none : (l : List ℕ) (zs : List ℤ) → length l ≤ farthest → PackedTo l zs 0 0 l
+pub packed-none : (l : List ℕ) (from : ℕ) (zs : List ℤ) → from ≤ farthest → length l ≤ farthest → PackedTo l from zs 0 from l
 unfolding packedLines
-packed-none l zs h = record { inside = omega arith; part = partly-none h }
+packed-none l from zs f h = record { inside = omega arith; part = partly-none f h }
 
 runs-lines : {zs : List ℤ} {i end : ℕ} → RunAt zs i end → runsLines (runsFrom zs i) ≡ runLines (stepAt zs i) (end - i - 1) ++ runsLines (runsFrom zs end)
 unfolding runsLines
 runs-lines r = rw (r .runs)
 
-module _ {l₀ : List ℕ} {zs : List ℤ} {i at : ℕ} {l : List ℕ} (p : PackedTo l₀ zs i at l) where
+module _ {l₀ : List ℕ} {zs : List ℤ} {from i at : ℕ} {l : List ℕ} (p : PackedTo l₀ from zs i at l) where
   pub packed-length : length l ≡ length l₀
-  packed-length = put-length (p .part .put)
+  packed-length = partly-length (p .part)
 
-  pub packed-more : {l′ : List ℕ} {end r : ℕ} {d : ℤ} → RunAt zs i end → d ≡ stepAt zs i → Put l at (endedLines (runLines d (end - i - 1))) r l′ → PackedTo l₀ zs end r l′
+  pub packed-more : {l′ : List ℕ} {end r : ℕ} {d : ℤ} → RunAt zs i end → d ≡ stepAt zs i → Put l at (endedLines (runLines d (end - i - 1))) r l′ → PackedTo l₀ from zs end r l′
   packed-more {end = end} a e q =
       record {
         inside = a .inside;
@@ -112,7 +92,7 @@ module _ {l₀ : List ℕ} {zs : List ℤ} {i at : ℕ} {l : List ℕ} (p : Pack
             (ap endedLines (runs-lines a) ∙ ended-append (runLines (stepAt zs i) (end - i - 1)) (runsLines (runsFrom zs end))) (rw e at q);
       }
 
-  pub packed-all : length zs ≤ i → Put l₀ 0 (endedLines (packedLines zs)) at l
+  pub packed-all : length zs ≤ i → Put l₀ from (endedLines (packedLines zs)) at l
   unfolding runsLines endedLines
   packed-all h = partly-all (p .part) (rw (runs-end zs i h))
 

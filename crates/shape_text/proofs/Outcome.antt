@@ -1,7 +1,7 @@
 -- What writing answers, and what it leaves in the lent output, at each of its returns. Assumes nothing.
 use Prim.Native.Nat.{ℕ, _-_, _≤_, _<_, _^_, min}
-use mathlib.Core.Bool.{true, false}
-use mathlib.Core.List.{List}
+use mathlib.Core.Bool.{Bool, true, false}
+use mathlib.Core.List.{List, []}
 use mathlib.Core.Path.{_≡_, ap, _∙_}
 use mathlib.Core.Logic.{⊎-elim}
 use native.Mathlib.Omega.{arith}
@@ -15,7 +15,7 @@ use Rattle.output.proofs.Over.{put-front, put-length}
 use Rattle.shape.specs.declared.Edition.{Edition}
 use Rattle.shape.specs.declared.Edition.the-variants.{V13, V14}
 use Rattle.shape_text.specs.declared.Written.the-variants.{Text, Shape, Output}
-use Rattle.shape_text.specs.Written.{isPlainText, endedLines, plainLines, packedLines, storedLines, textOf, isWritable, writtenOf, outputAfter, outputOf, Writing}
+use Rattle.shape_text.specs.Written.{isPlainText, endedLines, plainLines, packedLines, storedLines, textOf, allWithin, storedText, isWritable, writtenOf, outputAfter, outputOf, Writing}
 
 -- ---- is_plain_text
 pub plain-13 : {edition : Edition} (packed plain : ℕ) → edition ≡ V13 → false ≡ isPlainText edition packed plain
@@ -32,13 +32,23 @@ plain-14 packed plain e =
 
 -- ---- put_shape
 module _ (edition : Edition) (zs : List ℤ) (packed : ℕ) (e : packed ≡ length (packedLines zs)) where
-  pub text-plain : {l l′ : List ℕ} {r : ℕ} → isPlainText edition packed (length zs) ≡ true → Put l 0 (endedLines (plainLines zs)) r l′ → Put l 0 (textOf edition zs) r l′
+  pub text-plain : {l l′ : List ℕ} {at r : ℕ} → isPlainText edition packed (length zs) ≡ true → Put l at (endedLines (plainLines zs)) r l′ → Put l at (textOf edition zs) r l′
   unfolding textOf storedLines
   text-plain h p = rw (← e, h) p
 
-  pub text-packed : {l l′ : List ℕ} {r : ℕ} → isPlainText edition packed (length zs) ≡ false → Put l 0 (endedLines (packedLines zs)) r l′ → Put l 0 (textOf edition zs) r l′
+  pub text-packed : {l l′ : List ℕ} {at r : ℕ} → isPlainText edition packed (length zs) ≡ false → Put l at (endedLines (packedLines zs)) r l′ → Put l at (textOf edition zs) r l′
   unfolding textOf storedLines
   text-packed h p = rw (← e, h) p
+
+-- ---- put_stored
+module _ (edition : Edition) (zs : List ℤ) {b : Bool} (p : b ≡ allWithin zs) where
+  pub stored-within : b ≡ true → textOf edition zs ≡ storedText edition zs
+  unfolding storedText
+  stored-within e = rw (← p, e)
+
+  pub stored-beyond : b ≡ false → [] ≡ storedText edition zs
+  unfolding storedText
+  stored-beyond e = rw (← p, e)
 
 -- ---- write
 cleared-all : (l : List ℕ) → clearedFrom 0 0 l ≡ replicate (length l) 0

@@ -68,6 +68,10 @@ unfoldable pub allWithin : List ℤ → Bool
 allWithin [] = true
 allWithin (z ∷ zs) = leb (natAbs z) (10 ^ 17) && allWithin zs
 
+-- the stored lines of samples that are within it, wherever they are written; nothing where one is beyond
+unfoldable pub storedText : Edition → List ℤ → List ℕ
+storedText edition zs = cond (allWithin zs) (textOf edition zs) []
+
 unfoldable pub isWritable : List ℤ → Bool
 isWritable zs = leb 1 (length zs) && leb (length zs) 1000000 && allWithin zs
 

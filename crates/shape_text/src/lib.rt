@@ -6,7 +6,7 @@ ghost use Prim.Native.Nat.{_-_, _<_};
 ghost use lib.ListN.{length};
 ghost use Rattle.output.specs.Over.{Put, clearedFrom};
 ghost use Rattle.print.specs.Printed.{sampleText};
-ghost use Rattle.shape_text.specs.Written.{isPlainText, endedLines, runLines, plainLines, packedLines, textOf, allWithin, isWritable, numberOf, lengthOf, Writing};
+ghost use Rattle.shape_text.specs.Written.{isPlainText, endedLines, runLines, plainLines, packedLines, textOf, allWithin, storedText, isWritable, numberOf, lengthOf, Writing};
 ghost use Rattle.shape_text.specs.Inside.{stepAt, RunAt};
 use shape::Edition;
 use signed::Sum;
@@ -154,43 +154,53 @@ fn put_run(out: &mut [u8], at: usize, d: i64, n: usize) -> usize
 }
 
 // Writes every run of differences.
-fn put_packed(out: &mut [u8], samples: &[i64]) -> usize
+fn put_packed(out: &mut [u8], at: usize, samples: &[i64]) -> usize
     requires { ⌜ allWithin (now samples) ≡ true ⌝ }
-    ensures { λ r. ⌜ Put (now (out .entry)) 0 (endedLines (packedLines (now (samples .entry)))) r (now (out .exit)) ⌝ }
+    ensures { λ r. ⌜ Put (now (out .entry)) at (endedLines (packedLines (now (samples .entry)))) r (now (out .exit)) ⌝ }
 {
-    let mut at = 0;
+    let mut place = at;
     let mut i = 0;
     while i < samples.len() {
         let end = run_end(samples, i);
-        at = put_run(out, at, step(samples, i), end - i);
+        place = put_run(out, place, step(samples, i), end - i);
         i = end;
     }
-    at
+    place
 }
 
 // Writes every sample as it is.
-fn put_plain(out: &mut [u8], samples: &[i64]) -> usize
-    ensures { λ r. ⌜ Put (now (out .entry)) 0 (endedLines (plainLines (now (samples .entry)))) r (now (out .exit)) ⌝ }
+fn put_plain(out: &mut [u8], at: usize, samples: &[i64]) -> usize
+    ensures { λ r. ⌜ Put (now (out .entry)) at (endedLines (plainLines (now (samples .entry)))) r (now (out .exit)) ⌝ }
 {
-    let mut at = 0;
+    let mut place = at;
     let mut i = 0;
     while i < samples.len() {
         let z = samples[i];
-        at = put_value(out, at, z);
+        place = put_value(out, place, z);
         i += 1;
     }
-    at
+    place
 }
 
 // Writes the samples in the form that the edition has for them.
-fn put_shape(out: &mut [u8], samples: &[i64], edition: Edition) -> usize
+fn put_shape(out: &mut [u8], at: usize, samples: &[i64], edition: Edition) -> usize
     requires { ⌜ allWithin (now samples) ≡ true ⌝ }
-    ensures { λ r. ⌜ Put (now (out .entry)) 0 (textOf edition (now (samples .entry))) r (now (out .exit)) ⌝ }
+    ensures { λ r. ⌜ Put (now (out .entry)) at (textOf edition (now (samples .entry))) r (now (out .exit)) ⌝ }
 {
     if is_plain_text(edition, packed_count(samples), samples.len()) {
-        return put_plain(out, samples);
+        return put_plain(out, at, samples);
     }
-    put_packed(out, samples)
+    put_packed(out, at, samples)
+}
+
+// Writes samples in the form that the edition has for them; nothing where one is beyond ±100,000.
+pub fn put_stored(out: &mut [u8], at: usize, samples: &[i64], edition: Edition) -> usize
+    ensures { λ r. ⌜ Put (now (out .entry)) at (storedText edition (now (samples .entry))) r (now (out .exit)) ⌝ }
+{
+    if all_within(samples) {
+        return put_shape(out, at, samples, edition);
+    }
+    output::put_bytes(out, at, b"")
 }
 
 // Writes samples, given in steps of 10^-12, as stored lines. The lent output holds the text and then zeros; on a refusal, zeros.
@@ -201,7 +211,7 @@ pub fn write(samples: &[i64], edition: Edition, out: &mut [u8]) -> Written
         output::clear_bytes(out, 0);
         return Written::Shape;
     }
-    let length = put_shape(out, samples, edition);
+    let length = put_shape(out, 0, samples, edition);
     if out.len() < length {
         output::clear_bytes(out, 0);
         return Written::Output;

@@ -10,13 +10,13 @@ use Rattle.shape_text.proofs.put_packed.Statement.{statement}
 use Rattle.shape_text.proofs.put_packed.Tie as tie
 
 abbrev Inv-loop : tie.InvT-loop
-Inv-loop out₀ samples at₀ i₀ out at i = PackedTo out₀ samples i at out
+Inv-loop out₀ at samples place₀ i₀ out place i = PackedTo out₀ at samples i place out
 
 abbrev μ-loop : tie.MeasureT-loop
-μ-loop out₀ samples at₀ i₀ out at i = length samples - i
+μ-loop out₀ at samples place₀ i₀ out place i = length samples - i
 
 loop-holds : tie.Need-loop-holds Inv-loop μ-loop
-loop-holds c = packed-none _ _ (omega arith)
+loop-holds c = packed-none _ _ _ (omega arith) (omega arith)
 
 run-end-requires : tie.Need-run-end-requires Inv-loop μ-loop
 run-end-requires c κs = (c .before .before .before .pre, omega arith)

@@ -9,13 +9,13 @@ use Rattle.shape_text.proofs.put_plain.Statement.{statement}
 use Rattle.shape_text.proofs.put_plain.Tie as tie
 
 abbrev Inv-loop : tie.InvT-loop
-Inv-loop out₀ samples at₀ i₀ out at i = PlainTo out₀ samples i at out
+Inv-loop out₀ at samples place₀ i₀ out place i = PlainTo out₀ at samples i place out
 
 abbrev μ-loop : tie.MeasureT-loop
-μ-loop out₀ samples at₀ i₀ out at i = length samples - i
+μ-loop out₀ at samples place₀ i₀ out place i = length samples - i
 
 loop-holds : tie.Need-loop-holds Inv-loop μ-loop
-loop-holds c = plain-none _ _ (omega arith)
+loop-holds c = plain-none _ _ _ (omega arith) (omega arith)
 
 mul-z : tie.Need-mul-z Inv-loop μ-loop
 mul-z c = search needs
