@@ -10,7 +10,8 @@ use lib.ListN.{length, take, set, length-set}
 use lib.Seq.{take-all, take-suc-set}
 use Rattle.signed.specs.Signed.{sameZ, signedOf, largest}
 use Rattle.output.specs.Over.{farthest, Put}
-use Rattle.output.proofs.Over.{put-length, put-none, put-then}
+use Rattle.output.proofs.Over.{put-then}
+use Rattle.output.proofs.Partly.{Partly, partly-none, partly-length, partly-more, partly-all}
 use Rattle.unit.specs.Time.{onRaster}
 use Rattle.shape.specs.declared.Edition.{Edition}
 use Rattle.shape.specs.declared.Edition.the-variants.{V13, V14}
@@ -89,30 +90,24 @@ module _ (target : Edition) (raster : ℕ) (form : Form) (rows : List ℤ) (n k 
 module _ (line : ℕ → List ℕ) (n : ℕ) where
   pub record LinesPut (l₀ : List ℕ) (from at : ℕ) (l : List ℕ) (k : ℕ) : Type 0 where
     pub within : k ≤ n
-    pub done : List ℕ
-    pub put : Put l₀ from done at l
-    pub text : done ++ linesText line k (n - k) ≡ linesText line 0 n
+    pub part : Partly l₀ from (linesText line 0 n) (linesText line k (n - k)) at l
 
   pub lines-start : (l : List ℕ) (from : ℕ) → from ≤ farthest → length l ≤ farthest → LinesPut l from from l 0
-  lines-start l from f h = let e : n - 0 ≡ n = omega arith in record { within = omega arith; done = []; put = put-none f h; text = rw e }
+  lines-start l from f h = let e : n - 0 ≡ n = omega arith in record { within = omega arith; part = rw e (partly-none f h) }
 
   module _ {l₀ l : List ℕ} {from at k : ℕ} (w : LinesPut l₀ from at l k) where
     pub lines-length : length l ≡ length l₀
-    lines-length = put-length (w .put)
+    lines-length = partly-length (w .part)
 
     pub lines-turn : k < n → {r : ℕ} {l′ : List ℕ} → Put l at (line k) r l′ → LinesPut l₀ from r l′ (k + 1)
     unfolding linesText
     lines-turn h q =
         let left : n - k ≡ suc (n - suc k) = omega arith in
-        let t : w .done ++ (line k ++ linesText line (suc k) (n - suc k)) ≡ linesText line 0 n = rw left at (w .text) in
-        record { within = omega arith; done = w .done ++ line k; put = put-then (w .put) q; text = rw (add-one k, append-assoc) t }
+        record { within = omega arith; part = rw (add-one k) (partly-more (w .part) (line k) (linesText line (suc k) (n - suc k)) (rw left) q) }
 
     pub lines-end : n ≤ k → Put l₀ from (linesText line 0 n) at l
     unfolding linesText
-    lines-end h =
-        let e : n - k ≡ 0 = omega arith in
-        let t : w .done ++ [] ≡ linesText line 0 n = rw e at (w .text) in
-        rw (sym (append-nil (w .done)) ∙ t) at (w .put)
+    lines-end h = let e : n - k ≡ 0 = omega arith in partly-all (w .part) (rw e)
 
 -- ---- a section: its head, its lines and a blank line, or nothing
 module _ (b : Bool) (head lines : List ℕ) where

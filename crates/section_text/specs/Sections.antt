@@ -28,7 +28,7 @@ versionText target =
     91 ∷ 86 ∷ 69 ∷ 82 ∷ 83 ∷ 73 ∷ 79 ∷ 78 ∷ 93 ∷ 10 ∷ 109 ∷ 97 ∷ 106 ∷ 111 ∷ 114 ∷ 32 ∷ 49 ∷ 10 ∷ 109 ∷ 105 ∷ 110 ∷ 111 ∷ 114 ∷ 32 ∷ minorOf target ∷ 10 ∷ 114 ∷ 101
     ∷ 118 ∷ 105 ∷ 115 ∷ 105 ∷ 111 ∷ 110 ∷ 32 ∷ 49 ∷ 10 ∷ 10 ∷ []
 
--- ---- The heads: [BLOCKS], [RF], [GRADIENTS], [TRAP], [ADC], [DELAYS], [EXTENSIONS]; triggers stand in EXTENSIONS
+-- ---- The heads: [BLOCKS], [RF], [GRADIENTS], [TRAP], [ADC], [DELAYS]; entries and triggers stand in EXTENSIONS, which has other lines too
 abbrev pub headText : Form → List ℕ
 headText Block = 91 ∷ 66 ∷ 76 ∷ 79 ∷ 67 ∷ 75 ∷ 83 ∷ 93 ∷ 10 ∷ []
 headText Rf = 91 ∷ 82 ∷ 70 ∷ 93 ∷ 10 ∷ []
@@ -36,7 +36,7 @@ headText Gradient = 91 ∷ 71 ∷ 82 ∷ 65 ∷ 68 ∷ 73 ∷ 69 ∷ 78 ∷ 84 �
 headText Trap = 91 ∷ 84 ∷ 82 ∷ 65 ∷ 80 ∷ 93 ∷ 10 ∷ []
 headText Adc = 91 ∷ 65 ∷ 68 ∷ 67 ∷ 93 ∷ 10 ∷ []
 headText Delay = 91 ∷ 68 ∷ 69 ∷ 76 ∷ 65 ∷ 89 ∷ 83 ∷ 93 ∷ 10 ∷ []
-headText Entry = 91 ∷ 69 ∷ 88 ∷ 84 ∷ 69 ∷ 78 ∷ 83 ∷ 73 ∷ 79 ∷ 78 ∷ 83 ∷ 93 ∷ 10 ∷ []
+headText Entry = []
 headText Trigger = []
 
 -- ---- The section of a form, if there are rows of this form among n

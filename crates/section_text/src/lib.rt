@@ -20,7 +20,7 @@ pub fn put_version(out: &mut [u8], at: usize, target: Edition) -> usize
     }
 }
 
-// Writes the head of the section of a form; triggers have none of their own.
+// Writes the head of the section of a form; entries and triggers have none of their own.
 fn put_head(out: &mut [u8], at: usize, form: Form) -> usize
     ensures { λ r. ⌜ Put (now (out .entry)) at (headText form) r (now (out .exit)) ⌝ }
 {
@@ -31,7 +31,7 @@ fn put_head(out: &mut [u8], at: usize, form: Form) -> usize
         Form::Trap => output::put_bytes(out, at, b"[TRAP]\n"),
         Form::Adc => output::put_bytes(out, at, b"[ADC]\n"),
         Form::Delay => output::put_bytes(out, at, b"[DELAYS]\n"),
-        Form::Entry => output::put_bytes(out, at, b"[EXTENSIONS]\n"),
+        Form::Entry => output::put_bytes(out, at, b""),
         Form::Trigger => output::put_bytes(out, at, b""),
     }
 }
