@@ -1,0 +1,3 @@
+-- Laws of the section DEFINITIONS.
+pub mod Putting
+pub mod Examples
