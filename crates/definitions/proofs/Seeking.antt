@@ -1,11 +1,11 @@
 -- The value of a key, and the lines of a site's definitions. Assumes nothing.
 use Prim.Native.Nat.{ℕ, _-_, _≤_, _<_}
-use mathlib.Core.Bool.{Bool, true, false, cond, _&&_, _||_, true≢false}
+use mathlib.Core.Bool.{Bool, true, false, cond, _&&_, _||_, true≢false, false≢true}
 use mathlib.Core.List.{List, [], _∷_, _++_}
 use mathlib.Core.Path.{_≡_, refl, sym, ap, _∙_}
 use native.Mathlib.Omega.{arith}
 use borrow.Author.Tests.{ne-eqb, le-leb, lt-ltb, leb-true}
-use lib.Dec.{ltb, leb}
+use lib.Dec.{ltb}
 use lib.ListN.{length, take, drop, length-drop, drop-of-length-le}
 use lib.Seq.{take-all}
 use Rattle.text.specs.Lines.{linesOf}
@@ -16,7 +16,6 @@ use Rattle.text.specs.declared.Mark.{Mark}
 use Rattle.text.specs.declared.Mark.the-variants.{Blank, Comment, Section, Plain}
 use Rattle.text.proofs.Cut.{LineAt}
 use Rattle.grammar.specs.Definitions.{keyOf, valueOf, isDefinition}
-use Rattle.places.specs.declared.Fault.{Fault}
 use Rattle.places.specs.declared.Fault.the-variants.{Line as LineFault, Field as FieldFault}
 use Rattle.places.specs.declared.Found.{Found}
 use Rattle.places.specs.declared.Found.the-variants.{Nothing, Row, Definition as FoundDefinition, Fault as FoundFault}
@@ -67,30 +66,29 @@ pub either-first : (first second : List ℕ) → (length first ≡ 0 → ⊥) �
 unfolding eitherOf
 either-first first second n = rw (ne-eqb (length first) 0 n)
 
--- ---- a key is named among a site's definitions where its value is not empty
-not-defined : {k : Fault} → FoundFault k ≡ FoundDefinition → ⊥
-not-defined e = let z : _≡_ {A = ℕ} 0 1 = cc in omega arith
-
-nothing-defined : Nothing ≡ FoundDefinition → ⊥
-nothing-defined e = let z : _≡_ {A = ℕ} 0 1 = cc in omega arith
-
-valued : (l : List ℕ) → siteLine l ≡ FoundDefinition → 0 < length (valueOf l)
-unfolding siteLine siteMark isDefinition
-valued l e = broken (breaksLine l) e
+-- ---- a line is a definition only where it keeps to LINE and has a value
+pub site-defines : (l : List ℕ) → isDefined (siteLine l) ≡ true → (breaksLine l ≡ false) × (isDefinition l ≡ true)
+unfolding siteLine siteMark isDefined
+site-defines l e = broken (breaksLine l) e
   where
-    plain : (b : Bool) → leb 1 (length (valueOf l)) ≡ b → cond b FoundDefinition (FoundFault FieldFault) ≡ FoundDefinition → 0 < length (valueOf l)
-    plain true q e = leb-true 1 (length (valueOf l)) q
-    plain false q e = absurd (not-defined e)
+    plain : (b : Bool) → isDefined (cond b FoundDefinition (FoundFault FieldFault)) ≡ true → b ≡ true
+    plain true e = refl
+    plain false e = absurd (false≢true e)
 
-    marked : (m : Mark) → siteMark l m ≡ FoundDefinition → 0 < length (valueOf l)
-    marked Blank e = absurd (nothing-defined e)
-    marked Comment e = absurd (nothing-defined e)
-    marked Section e = absurd (not-defined e)
-    marked Plain e = plain (leb 1 (length (valueOf l))) refl e
+    marked : (m : Mark) → isDefined (siteMark l m) ≡ true → isDefinition l ≡ true
+    marked Blank e = absurd (false≢true e)
+    marked Comment e = absurd (false≢true e)
+    marked Section e = absurd (false≢true e)
+    marked Plain e = plain (isDefinition l) e
 
-    broken : (b : Bool) → cond b (FoundFault LineFault) (siteMark l (markOf l)) ≡ FoundDefinition → 0 < length (valueOf l)
-    broken true e = absurd (not-defined e)
-    broken false e = marked (markOf l) e
+    broken : (b : Bool) → isDefined (cond b (FoundFault LineFault) (siteMark l (markOf l))) ≡ true → (b ≡ false) × (isDefinition l ≡ true)
+    broken true e = absurd (false≢true e)
+    broken false e = (refl, marked (markOf l) e)
+
+-- ---- a key is named among a site's definitions where its value is not empty
+valued : (l : List ℕ) → siteLine l ≡ FoundDefinition → 0 < length (valueOf l)
+unfolding isDefined isDefinition
+valued l e = leb-true 1 (length (valueOf l)) (site-defines l (ap isDefined e) .1)
 
 pub named-sought : (key : List ℕ) (ls : List (List ℕ)) → isNamed key (siteIn ls) ≡ ltb 0 (length (sought key (siteIn ls)))
 unfolding siteIn siteAt isNamed sought isFault isDefined

@@ -15,7 +15,7 @@ use places::Found;
 use text::Mark;
 
 // Is this a definition?
-fn is_defined(found: Found) -> bool
+pub fn is_defined(found: Found) -> bool
     ensures { λ r. ⌜ r ≡ isDefined found ⌝ }
 {
     match found {
