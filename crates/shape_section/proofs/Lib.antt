@@ -1,3 +1,4 @@
--- Laws of SHAPES in a restated text, and worked examples.
+-- Laws of SHAPES in a restated text, that its lines are short, and worked examples.
 pub mod Putting
+pub mod Short
 pub mod Examples

@@ -7,4 +7,5 @@ pub mod Marks
 pub mod Lines
 pub mod Counted
 pub mod Words
+pub mod Short
 pub mod Examples
