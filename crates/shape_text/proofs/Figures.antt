@@ -48,7 +48,7 @@ number-mark false n t = unfold numberText in digit-mark (digitsOf n) t (digits-s
 
 -- ---- One word that is a decimal
 module _ (s : List ℕ) (d : Decimal) (e : decimalOf s ≡ NumberValue d) where
-  decimal-short : length s ≤ 32
+  pub decimal-short : length s ≤ 32
   decimal-short =
       ⊎-elim (λ (l : 32 < length s).
       let f : NumberBad ≡ NumberValue d = decimal-long s l ∙ e in

@@ -1,5 +1,5 @@
 -- The laws of written shapes: samples and their bounds, runs of differences, lines laid over an output, and what writing answers; then that
--- written shapes read back as the same samples, and that the outcome is unique.
+-- written shapes read back as the same samples, that their lines are short, and that the outcome is unique.
 pub mod Samples
 pub mod Runs
 pub mod Lines
@@ -12,4 +12,5 @@ pub mod Longest
 pub mod Sums
 pub mod Unrolled
 pub mod Back
+pub mod Short
 pub mod Unique

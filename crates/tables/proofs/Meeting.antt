@@ -9,7 +9,7 @@ use lib.IntN.{ℤ, pos, natAbs}
 use lib.ListN.{length, take, drop, length-drop, drop-of-length-le}
 use lib.Seq.{take-all}
 use Rattle.signed.specs.Signed.{sameZ}
-use Rattle.tables.specs.Tables.{numberAt, firstRow, metRow, metNumber, samplesOf}
+use Rattle.tables.specs.Tables.{numberAt, firstRow, metRow, metNumber, samplesAt, samplesOf}
 
 -- ---- the row, for a class and an ID as they were handed on
 module _ (rows : List ℤ) (n : ℕ) {class id held ref : ℤ} (p : held ≡ class) (q : ref ≡ id) where
@@ -43,7 +43,12 @@ module _ (samples : List ℤ) (from count : ℕ) where
   pub part-inside : take (from + count - from) (drop from samples) ≡ take count (drop from samples)
   part-inside = let e : from + count - from ≡ count = omega arith in rw e
 
--- ---- a shape's
+-- ---- a shape's, by its row and by its ID
+pub samples-there : (rows : List ℤ) (k : ℕ) (samples : List ℤ) (count from : ℕ) → count ≡ natAbs (numberAt rows k 2) → from ≡ natAbs (numberAt rows k 3)
+    → take count (drop from samples) ≡ samplesAt rows k samples
+unfolding samplesAt
+samples-there rows k samples count from p q = rw (p, q)
+
 pub samples-are : (rows : List ℤ) (n : ℕ) (samples : List ℤ) (id : ℤ) (ref : ℤ) → ref ≡ id → (count from : ℕ) → count ≡ natAbs (metNumber rows n (pos 11) ref 2)
     → from ≡ natAbs (metNumber rows n (pos 11) ref 3) → take count (drop from samples) ≡ samplesOf rows n samples id
 unfolding samplesOf

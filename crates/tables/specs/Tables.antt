@@ -77,7 +77,10 @@ metRow rows n class id = cond (sameZ id (pos 0)) n (firstRow rows n class id)
 unfoldable pub metNumber : List ℤ → ℕ → ℤ → ℤ → ℕ → ℤ
 metNumber rows n class id c = cond (ltb (metRow rows n class id) n) (numberAt rows (metRow rows n class id) c) (pos 0)
 
--- ---- "11 shape (id, num_samples, first sample's place from 0)": the samples of the shape that a reference meets
+-- ---- "11 shape (id, num_samples, first sample's place from 0)": the samples of the shape of row k, and of the one that a reference meets
+unfoldable pub samplesAt : List ℤ → ℕ → List ℤ → List ℤ
+samplesAt rows k samples = take (natAbs (numberAt rows k 2)) (drop (natAbs (numberAt rows k 3)) samples)
+
 unfoldable pub samplesOf : List ℤ → ℕ → List ℤ → ℤ → List ℤ
 samplesOf rows n samples id = take (natAbs (metNumber rows n (pos (classNumber Shape)) id 2)) (drop (natAbs (metNumber rows n (pos (classNumber Shape)) id 3)) samples)
 

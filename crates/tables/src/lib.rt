@@ -2,7 +2,7 @@
 ghost use mathlib.Core.Path.{_≡_};
 ghost use lib.IntN.{pos};
 ghost use lib.ListN.{take, drop};
-ghost use Rattle.tables.specs.Tables.{numberAt, classNumber, classAt, isRowOf, firstRow, isAgain, firstAgain, metRow, metNumber, samplesOf};
+ghost use Rattle.tables.specs.Tables.{numberAt, classNumber, classAt, isRowOf, firstRow, isAgain, firstAgain, metRow, metNumber, samplesAt, samplesOf};
 
 // What an ID is unique in.
 pub enum Class {
@@ -148,6 +148,15 @@ fn part(samples: &[i64], from: usize, count: usize) -> &[i64]
     }
     let end = from + count;
     &samples[from..end]
+}
+
+// The samples of the shape of row k: those that it counts from its place on.
+pub fn samples_at<'a>(rows: &[i64], k: usize, samples: &'a [i64]) -> &'a [i64]
+    ensures { λ r. ⌜ now r ≡ samplesAt (now (rows .entry)) k (now (samples .entry)) ⌝ }
+{
+    let count = signed::size(number(rows, k, 2)) as usize;
+    let from = signed::size(number(rows, k, 3)) as usize;
+    part(samples, from, count)
 }
 
 // The samples of the shape with this ID: those that its row counts from its place on.

@@ -1,0 +1,2 @@
+-- What must be believed of SHAPES in a restated text.
+pub mod Shapes
