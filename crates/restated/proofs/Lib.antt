@@ -1,0 +1,2 @@
+-- Laws of a restated text.
+pub mod Sections

@@ -1,0 +1,2 @@
+-- What must be believed of a restated text.
+pub mod Text

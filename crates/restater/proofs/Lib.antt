@@ -1,0 +1,3 @@
+-- Laws of restating.
+pub mod Saying
+pub mod Unique
