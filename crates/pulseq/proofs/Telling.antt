@@ -18,9 +18,12 @@ use Rattle.shape_text.specs.declared.Written.{Written}
 use Rattle.answers.specs.Answers.{answerNumber, answerLine, rowsUsed, samplesUsed}
 use Rattle.answers.specs.declared.Answer.{Answer}
 use Rattle.reader.specs.Reading.{Reading, zeros}
+use Rattle.restater.specs.Answers.{restatedNumber, restatedLine, rowsRead, samplesRead, textLength}
+use Rattle.restater.specs.Restating.{Restating}
+use Rattle.restater.specs.declared.Restated.{Restated}
 use Rattle.lookups.specs.Spots.{spotNumber, spotStart, spotLength, definitionSpot, storedSpot}
 use Rattle.lookups.specs.declared.Spot.{Spot}
-use Rattle.pulseq.specs.Exports.{told, readNumbers, ReadTold, editionOf, expandNumbers, expandSamples, expandAnswer, ExpandTold, writeNumbers, writeOutput, writeAnswer, WriteTold, spotNumbers, DefinitionTold, StoredTold}
+use Rattle.pulseq.specs.Exports.{told, readNumbers, ReadTold, editionOf, expandNumbers, expandSamples, expandAnswer, ExpandTold, writeNumbers, writeOutput, writeAnswer, WriteTold, restateNumbers, restateRows, restateSamples, restateOutput, restateAnswer, RestateTold, spotNumbers, DefinitionTold, StoredTold}
 use Rattle.pulseq.specs.declared.Named.the-variants.{Known, Unknown}
 
 -- ---- behind the last number there is 0
@@ -130,6 +133,24 @@ module _ {zs : List ℤ} {edition : ℕ} {l l′ answer answer′ : List ℕ} wh
   pub write-none : editionOf edition ≡ Unknown → l′ ≡ replicate (length l) 0 → answer′ ≡ told (length answer) (3 ∷ 0 ∷ []) → WriteTold zs edition l answer l′ answer′
   unfolding writeOutput writeAnswer
   write-none k z w = record { output = rw k z; numbers = rw k w }
+
+-- ---- what restating tells, to a target and to none
+module _ {file site : List ℕ} {target : ℕ} {table l table′ l′ : List ℤ} {out out′ answer answer′ : List ℕ} where
+  pub restate-tells : {e : Edition} → editionOf target ≡ Known e → {r : Restated} → Restating e file site table l out r table′ l′ out′ → {n line rows samples size : ℕ}
+      → n ≡ restatedNumber r → line ≡ restatedLine r → rows ≡ rowsRead r → samples ≡ samplesRead r → size ≡ textLength r
+      → answer′ ≡ told (length answer) (n ∷ line ∷ rows ∷ samples ∷ size ∷ []) → RestateTold file site target table l out answer table′ l′ out′ answer′
+  unfolding restateRows restateSamples restateOutput restateAnswer
+  restate-tells k d a b c f g w = record {
+    rows = rw k (d .rows);
+    samples = rw k (d .samples);
+    output = rw k (d .output);
+    numbers = rw k (rw (a, b, c, f, g) at w ∙ ap (λ (x : Restated). told (length answer) (restateNumbers x)) (d .answer));
+  }
+
+  pub restate-none : editionOf target ≡ Unknown → table′ ≡ zeros (length table) → l′ ≡ zeros (length l) → out′ ≡ replicate (length out) 0
+      → answer′ ≡ told (length answer) (3 ∷ 0 ∷ []) → RestateTold file site target table l out answer table′ l′ out′ answer′
+  unfolding restateRows restateSamples restateOutput restateAnswer
+  restate-none k x y z w = record { rows = rw k x; samples = rw k y; output = rw k z; numbers = rw k w }
 
 -- ---- what looking up tells
 spot-tells : (k : ℕ) {r s : Spot} {n start size : ℕ} → n ≡ spotNumber r → start ≡ spotStart r → size ≡ spotLength r → {l : List ℕ} → l ≡ told k (n ∷ start ∷ size ∷ []) → r ≡ s

@@ -15,6 +15,9 @@ use Rattle.shape_text.specs.declared.Written.{Written}
 use Rattle.answers.specs.Answers.{answerNumber, answerLine, rowsUsed, samplesUsed}
 use Rattle.answers.specs.declared.Answer.{Answer}
 use Rattle.reader.specs.Reading.{zeros, readOf, rowsOut, samplesOut}
+use Rattle.restater.specs.Answers.{restatedNumber, restatedLine, rowsRead, samplesRead, textLength}
+use Rattle.restater.specs.Restating.{restateOf, rowsAfter, samplesAfter, outputAfter}
+use Rattle.restater.specs.declared.Restated.{Restated}
 use Rattle.lookups.specs.Spots.{spotNumber, spotStart, spotLength, definitionSpot, storedSpot}
 use Rattle.lookups.specs.declared.Spot.{Spot}
 use Rattle.pulseq.specs.declared.Named.{Named}
@@ -71,6 +74,32 @@ writeAnswer Unknown zs room = versionNumbers
 pub record WriteTold (zs : List ℤ) (edition : ℕ) (l : List ℕ) (answer : List ℕ) (l′ : List ℕ) (answer′ : List ℕ) : Type 0 where
   pub output : l′ ≡ writeOutput (editionOf edition) zs (length l)
   pub numbers : answer′ ≡ told (length answer) (writeAnswer (editionOf edition) zs (length l))
+
+-- ---- Restating: "Restating also gets an output slice and answers its length"
+abbrev pub restateNumbers : Restated → List ℕ
+restateNumbers r = restatedNumber r ∷ restatedLine r ∷ rowsRead r ∷ samplesRead r ∷ textLength r ∷ []
+
+unfoldable pub restateRows : Named → List ℕ → List ℕ → ℕ → ℕ → ℕ → List ℤ
+restateRows (Known e) file site room size space = rowsAfter e file site room size space
+restateRows Unknown file site room size space = zeros room
+
+unfoldable pub restateSamples : Named → List ℕ → List ℕ → ℕ → ℕ → ℕ → List ℤ
+restateSamples (Known e) file site room size space = samplesAfter e file site room size space
+restateSamples Unknown file site room size space = zeros size
+
+unfoldable pub restateOutput : Named → List ℕ → List ℕ → ℕ → ℕ → ℕ → List ℕ
+restateOutput (Known e) file site room size space = outputAfter e file site room size space
+restateOutput Unknown file site room size space = replicate space 0
+
+unfoldable pub restateAnswer : Named → List ℕ → List ℕ → ℕ → ℕ → ℕ → List ℕ
+restateAnswer (Known e) file site room size space = restateNumbers (restateOf e file site room size space)
+restateAnswer Unknown file site room size space = versionNumbers
+
+pub record RestateTold (file site : List ℕ) (target : ℕ) (table l : List ℤ) (out answer : List ℕ) (table′ l′ : List ℤ) (out′ answer′ : List ℕ) : Type 0 where
+  pub rows : table′ ≡ restateRows (editionOf target) file site (length table) (length l) (length out)
+  pub samples : l′ ≡ restateSamples (editionOf target) file site (length table) (length l) (length out)
+  pub output : out′ ≡ restateOutput (editionOf target) file site (length table) (length l) (length out)
+  pub numbers : answer′ ≡ told (length answer) (restateAnswer (editionOf target) file site (length table) (length l) (length out))
 
 -- ---- Looking up: 1 for the file's text or 2 for the site's, where the part starts, and how long it is; zeros if there is none
 abbrev pub spotNumbers : Spot → List ℕ

@@ -1,8 +1,9 @@
 // The library's functions for C and Rust. Each answers for every input: it writes all of what is lent, and lays the numbers of its answer over a lent
 // `answer`, as many as fit, with zeros behind them.
 ghost use mathlib.Core.Path.{_≡_};
-ghost use lib.ListN.{length, getD};
-ghost use Rattle.pulseq.specs.Exports.{told, editionOf, ReadTold, ExpandTold, WriteTold, DefinitionTold, StoredTold};
+ghost use lib.ListN.{length, getD, replicate};
+ghost use Rattle.reader.specs.Reading.{zeros};
+ghost use Rattle.pulseq.specs.Exports.{told, editionOf, ReadTold, ExpandTold, WriteTold, RestateTold, DefinitionTold, StoredTold};
 use shape::Edition;
 
 // What a number names: an edition, or none.
@@ -109,6 +110,48 @@ pub extern "C" fn pulseq_write(samples: &[i64], edition: u64, out: &mut [u8], an
             output::clear_bytes(out, 0);
             let refused = [3, 0];
             tell(answer, &refused);
+        }
+    }
+}
+
+// Fills lent tables and a lent output with zeros.
+fn clear_all(rows: &mut [i64], samples: &mut [i64], out: &mut [u8])
+    ensures { λ r. ⌜ (now (rows .exit) ≡ zeros (length (now (rows .entry)))) × ((now (samples .exit) ≡ zeros (length (now (samples .entry)))) × (now (out .exit) ≡ replicate (length (now (out .entry))) 0)) ⌝ }
+{
+    output::clear_numbers(rows, 0);
+    output::clear_numbers(samples, 0);
+    output::clear_bytes(out, 0);
+}
+
+// Restates a file with a site's definitions to a target, reading it into lent tables and writing its text into a lent output, and tells the number, the
+// line, how many rows and samples are used, and how long the text is.
+#[no_mangle]
+pub extern "C" fn pulseq_restate<'a>(
+    file: &'a [u8],
+    site: &'a [u8],
+    target: u64,
+    rows: &mut [i64],
+    samples: &mut [i64],
+    out: &mut [u8],
+    answer: &mut [u64],
+)
+    ensures { λ r. ⌜ RestateTold (now (file .entry)) (now (site .entry)) target (now (rows .entry)) (now (samples .entry)) (now (out .entry)) (now (answer .entry)) (now (rows .exit)) (now (samples .exit)) (now (out .exit)) (now (answer .exit)) ⌝ }
+{
+    match edition_of(target) {
+        Named::Known(known) => {
+            let restated = restater::restate(file, site, known, rows, samples, out);
+            let number = restated.number();
+            let line = restated.line() as u64;
+            let used = restated.rows() as u64;
+            let count = restated.samples() as u64;
+            let size = restated.length() as u64;
+            let numbers = [number, line, used, count, size];
+            tell(answer, &numbers);
+        }
+        Named::Unknown => {
+            clear_all(rows, samples, out);
+            let unknown = [3, 0];
+            tell(answer, &unknown);
         }
     }
 }
