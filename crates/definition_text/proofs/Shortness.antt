@@ -20,7 +20,7 @@ use Rattle.file.specs.Whole.{isFault, isDefined, gathered}
 use Rattle.definitions.specs.Definitions.{Definition, definitionAt, definitionsFrom, definitionsOf, siteLine, siteAt, siteIn, siteDefinitions, sought}
 use Rattle.definitions.proofs.Seeking.{site-defines}
 use Rattle.rasters.specs.Rasters.{gradientKey, rfKey, adcKey, blockKey}
-use Rattle.said.specs.Said.{sectionOf}
+use Rattle.said.proofs.Short.{short-if, section-short}
 use Rattle.definition_text.specs.Definitions.{definitionLine, definitionLines, absentLine, addedLines, definitionsText, definitionsHead, definitionSection}
 use Rattle.definition_text.proofs.Defined.{step-defines, definition-short}
 
@@ -61,11 +61,7 @@ module _ (key : List ℕ) (k : length key + 1 ≤ 1024) where
 
   absent-short : (own : List Definition) (site : List ℕ) → Short (absentLine own (siteDefinitions site) key)
   unfolding absentLine siteDefinitions
-  absent-short own site = go (eqb (length (sought key own)) 0)
-    where
-      go : (b : Bool) → Short (cond b (definitionLine key (sought key (siteIn (linesOf site)))) [])
-      go true = line-short key (sought key (siteIn (linesOf site))) (value-short (linesOf site))
-      go false = short-none
+  absent-short own site = short-if (eqb (length (sought key own)) 0) (line-short key (sought key (siteIn (linesOf site))) (value-short (linesOf site))) short-none
 
 added-short : (target : Edition) (own : List Definition) (site : List ℕ) → Short (addedLines target own (siteDefinitions site))
 unfolding addedLines gradientKey rfKey adcKey blockKey
@@ -75,10 +71,6 @@ added-short V14 own site =
     (short-append (absent-short rfKey (omega arith) own site) (short-append (absent-short adcKey (omega arith) own site) (absent-short blockKey (omega arith) own site)))
 
 -- ---- the section
-pub section-short : (b : Bool) {head lines : List ℕ} → Short head → Short lines → Short (sectionOf b head lines)
-section-short true h k = short-append h (short-append k (short-line [] (omega arith) short-none))
-section-short false h k = short-none
-
 head-short : Short definitionsHead
 unfolding definitionsHead
 head-short = short-line (91 ∷ 68 ∷ 69 ∷ 70 ∷ 73 ∷ 78 ∷ 73 ∷ 84 ∷ 73 ∷ 79 ∷ 78 ∷ 83 ∷ 93 ∷ []) (omega arith) short-none

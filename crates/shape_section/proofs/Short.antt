@@ -1,43 +1,30 @@
 -- The lines of SHAPES are short enough for LINE. Assumes nothing.
-use Prim.Native.Nat.{ℕ, zero, suc, _^_, _≤_}
-use mathlib.Core.Bool.{Bool, true, false, cond}
+use Prim.Native.Nat.{ℕ, _^_, _≤_}
 use mathlib.Core.List.{List, [], _∷_, _++_, append-assoc}
 use native.Mathlib.Omega.{arith}
 use lib.IntN.{ℤ, pos, natAbs}
 use lib.ListN.{length, drop, length-append, length-take}
 use Rattle.text.proofs.Short.{Short, short-none, short-line, short-append}
-use Rattle.signed.specs.Signed.{isNegative}
 use Rattle.print.specs.Printed.{signedText}
-use Rattle.print.proofs.Digits.{digits-within}
-use Rattle.print.proofs.Parts.{number-length}
 use Rattle.shape.specs.declared.Edition.{Edition}
 use Rattle.shape_text.proofs.Short.{stored-short}
 use Rattle.columns.specs.Columns.{shapeKind}
 use Rattle.tables.specs.Tables.{numberAt, samplesAt}
 use Rattle.grammar.specs.Steps.{shapeIdWord, numSamplesWord}
 use Rattle.sayable.specs.Sayable.{isKind}
-use Rattle.said.specs.Said.{linesText, hasKind}
-use Rattle.shape_section.specs.Shapes.{shapesHead, wordLine, shapeText, shapeLine, shapesText, shapeSection}
+use Rattle.said.specs.Said.{hasKind}
+use Rattle.said.proofs.Short.{Small, short-if, lines-short, signed-short}
+use Rattle.shape_section.specs.Shapes.{shapesHead, wordLine, shapeText, shapeLine, shapeSection}
 
 -- ---- a word and a number
-signed-short : (z : ℤ) → natAbs z ≤ 2 ^ 63 → length (signedText z) ≤ 20
-unfolding signedText
-signed-short z h = omega (arith, number-length (isNegative z) (natAbs z), digits-within 18 (natAbs z) (omega arith))
-
 word-short : (word : List ℕ) (z : ℤ) → length word ≤ 1000 → natAbs z ≤ 2 ^ 63 → Short (wordLine word z)
 unfolding wordLine
 word-short word z h k =
     let l = signed-short z k in
     rw append-assoc at (short-line (word ++ (32 ∷ signedText z)) (rw length-append (omega arith)) short-none)
 
--- ---- lines one after another, each of them short
-pub lines-short : (line : ℕ → List ℕ) → ((k : ℕ) → Short (line k)) → (k n : ℕ) → Short (linesText line k n)
-unfolding linesText
-lines-short line s k zero = short-none
-lines-short line s k (suc n) = short-append (s k) (lines-short line s (suc k) n)
-
 -- ---- a shape, and the section, of rows whose numbers are no larger than numbers of 64 bits can be
-module _ (target : Edition) (rows samples : List ℤ) (small : (k c : ℕ) → natAbs (numberAt rows k c) ≤ 2 ^ 63) where
+module _ (target : Edition) (rows samples : List ℤ) (small : Small rows) where
   samples-few : (k : ℕ) → length (samplesAt rows k samples) ≤ 2 ^ 63
   unfolding samplesAt
   samples-few k =
@@ -54,20 +41,12 @@ module _ (target : Edition) (rows samples : List ℤ) (small : (k c : ℕ) → n
 
   shape-line-short : (k : ℕ) → Short (shapeLine target rows samples k)
   unfolding shapeLine
-  shape-line-short k = go (isKind rows k (pos shapeKind))
-    where
-      go : (b : Bool) → Short (cond b (shapeText target rows samples k) [])
-      go true = shape-short k
-      go false = short-none
+  shape-line-short k = short-if (isKind rows k (pos shapeKind)) (shape-short k) short-none
 
   head-short : Short shapesHead
   unfolding shapesHead
   head-short = short-line (91 ∷ 83 ∷ 72 ∷ 65 ∷ 80 ∷ 69 ∷ 83 ∷ 93 ∷ []) (omega arith) short-none
 
-  pub section-short : (n : ℕ) → Short (shapeSection target rows n samples)
+  pub shapes-short : (n : ℕ) → Short (shapeSection target rows n samples)
   unfolding shapeSection
-  section-short n = go (hasKind (pos shapeKind) rows n)
-    where
-      go : (b : Bool) → Short (cond b (shapesHead ++ shapesText target rows n samples) [])
-      go true = short-append head-short (lines-short (shapeLine target rows samples) shape-line-short 0 n)
-      go false = short-none
+  shapes-short n = short-if (hasKind (pos shapeKind) rows n) (short-append head-short (lines-short (shapeLine target rows samples) shape-line-short 0 n)) short-none

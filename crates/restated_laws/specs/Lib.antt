@@ -1,0 +1,2 @@
+-- What must be believed of the limits of a text.
+pub mod Limits
