@@ -2,3 +2,4 @@
 pub mod Answered
 pub mod Rules
 pub mod Keeping
+pub mod Playing
