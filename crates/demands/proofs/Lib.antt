@@ -1,4 +1,4 @@
--- The demands on reading.
+-- The demands on reading, and on what restating refuses.
 pub mod Answering
 pub mod Passing
 pub mod Lines
@@ -7,5 +7,6 @@ pub mod Samples
 pub mod Questions
 pub mod Tables
 pub mod Exactly
+pub mod Refusing
 pub mod Marked
 pub mod Unique

@@ -3,3 +3,4 @@ pub mod Answered
 pub mod Rules
 pub mod Keeping
 pub mod Playing
+pub mod Refusing
