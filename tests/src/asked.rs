@@ -1,7 +1,9 @@
 // The questions that are asked of one generated case.
 
 use crate::generator::{case, sample_list, stored_lines, Case};
+use crate::paper::edition_of;
 use crate::paper::lookup::RASTER_NAMES;
+use crate::paper::restating::restate;
 use crate::questions::{by_the_paper, Outcome, Question};
 use crate::random::Random;
 
@@ -17,7 +19,7 @@ impl Asked {
         Asked { case: case(seed, number), random: Random::new(!seed, number) }
     }
 
-    /// All questions, reading first.
+    /// All questions, reading and restating first.
     pub fn questions(&mut self) -> Vec<Question<'_>> {
         let case = &self.case;
         let random = &mut self.random;
@@ -28,6 +30,10 @@ impl Asked {
             samples_len: case.samples_len,
         };
         let mut questions = vec![read];
+        let other = random.once_in(20).then(|| edition_for(random));
+        for target in [103, 104].into_iter().chain(other) {
+            questions.push(restate_question(random, case, target));
+        }
         if random.once_in(2) {
             let key = key_for(random, case);
             questions.push(Question::Definition {
@@ -52,6 +58,27 @@ impl Asked {
         }
         questions
     }
+}
+
+/// Restating to a target, with an output that is enough, just enough, or one byte too little.
+fn restate_question<'a>(random: &mut Random, case: &'a Case, target: u64) -> Question<'a> {
+    let [rows_len, samples_len] = [case.rows_len, case.samples_len];
+    let most = 1 << 24;
+    let wide = [rows_len, samples_len, most];
+    let restated = edition_of(target).and_then(|t| restate(&case.file, &case.site, t, wide).ok());
+    let length = match restated {
+        Some((_, text)) => text.len(),
+        None if case.file.len() > most / 2 => most,
+        None => 0,
+    };
+    let out_len = match random.below(6) {
+        0 => length,
+        1 => length.saturating_sub(1),
+        2 => random.below(length.min(300)),
+        _ => length + random.below(60),
+    };
+    let lengths = [rows_len, samples_len, out_len];
+    Question::Restate { file: (&case.file).into(), site: (&case.site).into(), target, lengths }
 }
 
 /// The first field of a random line of a text.

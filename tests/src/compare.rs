@@ -1,24 +1,24 @@
 // Many generated cases: the library held against the paper's plain reading.
 
 use crate::asked::Asked;
+use crate::counts::Counts;
 use crate::library;
-use crate::questions::{by_the_paper, Outcome, Question};
+use crate::questions::{by_the_paper, plays_again, Outcome, Question};
 use crate::random::Random;
 use std::path::PathBuf;
 
 /// Compares cases of a seed up to the first difference; says whether there was none.
 pub fn compare(cases: u64, seed: u64) -> bool {
-    let mut histogram = [0; 20];
+    let mut counts = Counts::default();
     for number in 0..cases {
         let mut asked = Asked::new(seed, number);
         let mut random = Random::new(seed.rotate_left(32), number);
         for question in asked.questions() {
             let expected = by_the_paper(&question);
-            if let Question::Read { .. } = question {
-                histogram[expected.answer[0] as usize] += 1;
-            }
+            counts.add(&question, &expected);
             let length = answer_len(&mut random, expected.answer.len());
-            if let Err(difference) = held(&question, expected, length) {
+            let result = plays_again(&question, &expected);
+            if let Err(difference) = result.and_then(|()| held(&question, expected, length)) {
                 println!("case {number} of seed {seed}: {difference}");
                 println!("written to {}", keep(&question).display());
                 println!("{} cases, 1 difference", number + 1);
@@ -26,16 +26,9 @@ pub fn compare(cases: u64, seed: u64) -> bool {
             }
         }
     }
-    print_histogram(&histogram);
+    counts.print();
     println!("{cases} cases, 0 differences");
     true
-}
-
-/// How often each answer came up.
-fn print_histogram(histogram: &[u64; 20]) {
-    for (number, count) in histogram.iter().enumerate().take(18) {
-        println!("answer {number:2}: {count}");
-    }
 }
 
 /// A length for the answer: mostly the full one.
@@ -84,6 +77,11 @@ fn keep(question: &Question) -> PathBuf {
             save("file", file);
             save("site", site);
             format!("read, rows_len {rows_len}, samples_len {samples_len}\n")
+        }
+        Question::Restate { file, site, target, lengths: [rows, samples, out] } => {
+            save("file", file);
+            save("site", site);
+            format!("restate to {target}, rows_len {rows}, samples_len {samples}, out_len {out}\n")
         }
         Question::Definition { file, site, key } => {
             save("file", file);

@@ -2,19 +2,21 @@
 // against another reading of the paper.
 
 use crate::asked::Asked;
-use crate::questions::{by_the_paper, text_of, Question};
+use crate::counts::Counts;
+use crate::questions::{by_the_paper, plays_again, text_of, Question};
 use std::io::{BufWriter, Write};
 
 /// Writes the questions of cases of a seed; each is a line of words and lengths, then the bytes.
 pub fn dump(path: &str, cases: u64, seed: u64) -> std::io::Result<()> {
     let mut to = BufWriter::new(std::fs::File::create(path)?);
-    let mut histogram = [0; 20];
+    let mut counts = Counts::default();
     for number in 0..cases {
         let mut asked = Asked::new(seed, number);
         for question in asked.questions() {
             let outcome = by_the_paper(&question);
-            if let Question::Read { .. } = question {
-                histogram[outcome.answer[0] as usize] += 1;
+            counts.add(&question, &outcome);
+            if let Err(fault) = plays_again(&question, &outcome) {
+                println!("case {number} of seed {seed}: {fault}");
             }
             let answer = match question {
                 Question::Definition { .. } | Question::Stored { .. } => {
@@ -25,9 +27,7 @@ pub fn dump(path: &str, cases: u64, seed: u64) -> std::io::Result<()> {
             write_question(&mut to, number, &question, &answer)?;
         }
     }
-    for (number, count) in histogram.iter().enumerate().take(18) {
-        println!("answer {number:2}: {count}");
-    }
+    counts.print();
     to.flush()
 }
 
@@ -41,6 +41,9 @@ fn write_question(
     let (words, texts): (String, Vec<Vec<u8>>) = match question {
         Question::Read { file, site, rows_len, samples_len } => {
             (format!("read {rows_len} {samples_len}"), vec![file.to_vec(), site.to_vec()])
+        }
+        Question::Restate { file, site, target, lengths: [rows, samples, out] } => {
+            (format!("restate {target} {rows} {samples} {out}"), vec![file.to_vec(), site.to_vec()])
         }
         Question::Definition { file, site, key } => {
             ("definition".to_string(), vec![file.to_vec(), site.to_vec(), key.clone()])

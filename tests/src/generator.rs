@@ -32,6 +32,9 @@ pub fn case(seed: u64, number: u64) -> Case {
     if number % 25_000 == 24_999 {
         return big_case(random, [0, 1, 0, 77][(number / 25_000 % 4) as usize]);
     }
+    if number % 25_000 == 12_499 {
+        return long_case((number / 25_000 % 2) as usize);
+    }
     match random.below(100) {
         0 => soup_case(random),
         1 => {
@@ -56,7 +59,7 @@ fn drafted_case(random: &mut Random) -> Case {
     let mut draft = draft::sound(random, size);
     let faults = random.pick(&[0, 0, 1, 1, 1, 1, 1, 2]);
     for _ in 0..faults {
-        let refusal = 3 + random.below(15) as u64;
+        let refusal = 3 + random.below(16) as u64;
         damage::spoil(random, &mut draft, refusal);
     }
     let (rows, samples) = sizes(&draft);
@@ -180,6 +183,27 @@ fn big_case(random: &mut Random, over: usize) -> Case {
     }
     let site = layout::site_text(random, &draft);
     Case { file, site, rows_len: 12 * rows, samples_len: samples }
+}
+
+/// A file that, restated to 1.4.1, is one byte longer: 2^24 bytes and some over.
+fn long_case(over: usize) -> Case {
+    let count = ((1 << 24) - 800) / 23;
+    let head = |name: &str| {
+        format!(
+            "[VERSION]\nmajor 1\nminor 4\nrevision 1\n\n[DEFINITIONS]\n{DOCUMENT_SITE}\
+             AdcRasterTime 1e-07\nBlockDurationRaster 1e-05\nName {name}\n\n\
+             [BLOCKS]\n1 10 0 0 0 0 1 0\n\n[ADC]\n1 10 1e3 0 0 0\n\n\
+             [SHAPES]\nshape_id 1\nnum_samples {count}\n"
+        )
+    };
+    let left = (1 << 24) - 1 + over - head("").len() - 23 * count - 1;
+    let mut file = head(&"x".repeat(left)).into_bytes();
+    for number in 0..count {
+        let value = ["-99999123456789011e-12\n", "-99999123456789013e-12\n"][number % 2];
+        file.extend_from_slice(value.as_bytes());
+    }
+    file.push(b'\n');
+    Case { file, site: DOCUMENT_SITE.as_bytes().to_vec(), rows_len: 36, samples_len: count }
 }
 
 /// Stored lines alone, with a count that is mostly theirs.

@@ -6,6 +6,7 @@ use crate::questions::{Outcome, Question};
 #[rustfmt::skip]
 extern "C" {
     fn pulseq_read(file: *const u8, file_len: usize, site: *const u8, site_len: usize, rows: *mut i64, rows_len: usize, samples: *mut i64, samples_len: usize, answer: *mut u64, answer_len: usize);
+    fn pulseq_restate(file: *const u8, file_len: usize, site: *const u8, site_len: usize, target: u64, rows: *mut i64, rows_len: usize, samples: *mut i64, samples_len: usize, out: *mut u8, out_len: usize, answer: *mut u64, answer_len: usize);
     fn pulseq_expand(stored: *const u8, stored_len: usize, num: u64, edition: u64, samples: *mut i64, samples_len: usize, answer: *mut u64, answer_len: usize);
     fn pulseq_write(samples: *const i64, samples_len: usize, edition: u64, out: *mut u8, out_len: usize, answer: *mut u64, answer_len: usize);
     fn pulseq_definition(file: *const u8, file_len: usize, site: *const u8, site_len: usize, key: *const u8, key_len: usize, answer: *mut u64, answer_len: usize);
@@ -52,6 +53,11 @@ fn table(length: usize) -> Lent<i64> {
     Lent::new(length, 0x5a5a_5a5a_5a5a_5a5a, -7_777_777_777)
 }
 
+/// A lent output.
+fn output(length: usize) -> Lent<u8> {
+    Lent::new(length, 0x5a, 0xee)
+}
+
 /// A lent slice for the answer.
 fn answers(length: usize) -> Lent<u64> {
     Lent::new(length, 0xa5a5_a5a5_a5a5_a5a5, 0xdead_beef_dead_beef)
@@ -62,6 +68,9 @@ pub fn ask(question: &Question, answer_len: usize) -> Result<Outcome, String> {
     match question {
         Question::Read { file, site, rows_len, samples_len } => {
             read(file, site, *rows_len, *samples_len, answer_len)
+        }
+        Question::Restate { file, site, target, lengths } => {
+            restate(file, site, *target, *lengths, answer_len)
         }
         Question::Expand { stored, num, edition, samples_len } => {
             expand(stored, *num, *edition, *samples_len, answer_len)
@@ -91,6 +100,25 @@ fn read(file: &[u8], site: &[u8], rows_len: usize, samples_len: usize, answer_le
     Ok(Outcome { answer: answer.back("answer")?, rows, samples, ..Outcome::default() })
 }
 
+/// Calls `pulseq_restate`.
+#[rustfmt::skip]
+fn restate(file: &[u8], site: &[u8], target: u64, lengths: [usize; 3], answer_len: usize) -> Result<Outcome, String> {
+    let [rows_len, samples_len, out_len] = lengths;
+    let mut rows = table(rows_len);
+    let mut samples = table(samples_len);
+    let mut out = output(out_len);
+    let mut answer = answers(answer_len);
+    unsafe {
+        pulseq_restate(
+            file.as_ptr(), file.len(), site.as_ptr(), site.len(), target,
+            rows.lent().as_mut_ptr(), rows_len, samples.lent().as_mut_ptr(), samples_len,
+            out.lent().as_mut_ptr(), out_len, answer.lent().as_mut_ptr(), answer_len,
+        );
+    }
+    let [rows, samples] = [rows.back("rows")?, samples.back("samples")?];
+    Ok(Outcome { answer: answer.back("answer")?, rows, samples, out: out.back("out")? })
+}
+
 /// Calls `pulseq_expand`.
 #[rustfmt::skip]
 fn expand(stored: &[u8], num: u64, edition: u64, samples_len: usize, answer_len: usize) -> Result<Outcome, String> {
@@ -109,7 +137,7 @@ fn expand(stored: &[u8], num: u64, edition: u64, samples_len: usize, answer_len:
 /// Calls `pulseq_write`.
 #[rustfmt::skip]
 fn write(samples: &[i64], edition: u64, out_len: usize, answer_len: usize) -> Result<Outcome, String> {
-    let mut out = Lent::new(out_len, 0x5a, 0xee);
+    let mut out = output(out_len);
     let mut answer = answers(answer_len);
     unsafe {
         pulseq_write(

@@ -7,6 +7,7 @@
 mod asked;
 #[cfg(library)]
 mod compare;
+mod counts;
 mod dump;
 mod generator;
 #[cfg(library)]
@@ -27,7 +28,8 @@ const SEED: u64 = 20_261_115;
 
 /// What the modes are called with.
 const USAGE: &str = "compare [CASES] [SEED] | vectors | dump FILE [CASES] [SEED] |
-show read FILE SITE ROWS SAMPLES | show definition FILE SITE KEY | show stored FILE SITE ID |
+show read FILE SITE ROWS SAMPLES | show restate FILE SITE 1.3.1|1.4.1 ROWS SAMPLES OUT |
+show definition FILE SITE KEY | show stored FILE SITE ID |
 show expand STORED NUM 1.3|1.4 ROOM | show write 1.3|1.4 ROOM SAMPLE...   (a SITE of - is empty)";
 
 /// Runs a mode; the status is 0 if all was right, 1 if not, 2 for wrong words.

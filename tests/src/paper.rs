@@ -1,9 +1,11 @@
 // A plain reading of the paper, apart from the library: what it answers for a file, a site's
-// text and the room lent, and for shapes alone.
+// text and the room lent, read or restated, and for shapes alone.
 
 pub mod lines;
 pub mod lookup;
 pub mod numbers;
+pub mod plays;
+pub mod restating;
 mod rows;
 mod rules;
 pub mod shapes;
@@ -31,6 +33,7 @@ pub const USE: u64 = 14;
 pub const ALIGN: u64 = 15;
 pub const LONG: u64 = 16;
 pub const OUTLASTS: u64 = 17;
+pub const UNSAYABLE: u64 = 18;
 pub const OUTPUT: u64 = 19;
 
 /// The edition of a file: 1.3 or 1.4.
@@ -47,13 +50,21 @@ pub struct Fault {
     pub line: u64,
 }
 
-/// What reading answers: a number and a line, and on acceptance rows and samples.
-#[derive(PartialEq, Debug)]
-pub struct Reading {
-    pub number: u64,
-    pub line: u64,
+/// An accepted file: what its lines give, its rasters, and what the tables hold.
+pub struct Accepted {
+    pub sheet: Sheet,
+    pub rasters: Rasters,
+    /// The rows, each block with its ns.
     pub rows: Vec<Vec<i64>>,
-    pub samples: Vec<i64>,
+    /// The samples of each shape.
+    pub shapes: Vec<Vec<i64>>,
+}
+
+impl Accepted {
+    /// The file as the rules ask it.
+    fn checked(&self) -> Checked<'_> {
+        Checked::new(&self.sheet, self.rasters, &self.shapes)
+    }
 }
 
 /// Whether the file or the site's text is BIG.
@@ -70,47 +81,38 @@ pub fn edition_of(number: u64) -> Option<Edition> {
     }
 }
 
-/// Reads a file with room for `rows_len` and `samples_len` numbers.
-pub fn read(file: &[u8], site: &[u8], rows_len: usize, samples_len: usize) -> Reading {
-    match accepted(file, site, rows_len, samples_len) {
-        Ok((rows, samples)) => Reading { number: 0, line: 0, rows, samples },
-        Err(Fault { number, line }) => {
-            Reading { number, line, rows: Vec::new(), samples: Vec::new() }
-        }
-    }
-}
-
-/// The rows and samples of a file that is accepted.
-type Tables = (Vec<Vec<i64>>, Vec<i64>);
-
-/// Asks every rule in the paper's order.
-fn accepted(
+/// Reads a file with room for `rows_len` and `samples_len` numbers, alone or to be restated to a
+/// target: asks every rule from BIG to OUTLASTS in the paper's order.
+pub fn read(
     file: &[u8],
     site: &[u8],
     rows_len: usize,
     samples_len: usize,
-) -> Result<Tables, Fault> {
-    if is_big(file, site) {
-        return Err(Fault { number: BIG, line: 0 });
-    }
+    target: Option<Edition>,
+) -> Result<Accepted, Fault> {
+    refuse(BIG, is_big(file, site).then_some(0))?;
     let sheet = syntax::parsed(file)?;
     refuse(MISSING, is_missing(&sheet).then_some(0))?;
     let exceeds = sheet.rows.len() > rows_len / 12 || sheet.samples > samples_len;
     refuse(ROOM, exceeds.then_some(0))?;
-    let site_asked = sheet.edition == Edition::V13;
+    let site_asked = sheet.edition == Edition::V13 || target.is_some();
     refuse(SITE, (site_asked && lookup::site_definitions(site).is_none()).then_some(0))?;
     refuse(DUPLICATE, rules::duplicate(file, &sheet))?;
     let rasters = lookup::rasters(file, site, &sheet);
-    refuse(RASTER, lacks_raster(&sheet, &rasters).then_some(0))?;
-    let expanded = expanded_shapes(&sheet)?;
-    let checked = Checked::new(&sheet, rasters, &expanded);
+    let lacks = lacks_raster(&sheet, &rasters) || restating::lacks_raster(target, &rasters, site);
+    refuse(RASTER, lacks.then_some(0))?;
+    let shapes = expanded_shapes(&sheet)?;
+    let checked = Checked::new(&sheet, rasters, &shapes);
     refuse(REFERENCE, checked.reference())?;
     refuse(LOOP, checked.looping())?;
     refuse(USE, checked.misuse())?;
-    refuse(ALIGN, checked.misaligned())?;
+    if sheet.edition == Edition::V14 {
+        refuse(ALIGN, checked.misaligned())?;
+    }
     refuse(LONG, checked.too_long())?;
     refuse(OUTLASTS, checked.outlasted())?;
-    Ok((finished_rows(&checked), expanded.concat()))
+    let rows = finished_rows(&checked);
+    Ok(Accepted { sheet, rasters, rows, shapes })
 }
 
 /// A refusal, if there is a line for it.

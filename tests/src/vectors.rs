@@ -2,7 +2,7 @@
 
 use crate::compare::held;
 use crate::library;
-use crate::questions::{by_the_paper, question_of, text_of};
+use crate::questions::{by_the_paper, plays_again, question_of, text_of};
 use std::path::PathBuf;
 
 /// Runs all vectors; says whether all are right.
@@ -34,5 +34,6 @@ fn one(line: &str, folder: &std::path::Path) -> Result<(), String> {
     if found != kept {
         return Err(format!("found {:?}", String::from_utf8_lossy(&found)));
     }
+    plays_again(&question, &expected)?;
     held(&question, expected, full)
 }

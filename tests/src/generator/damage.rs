@@ -1,4 +1,4 @@
-// Faults: one for each refusal from 3 to 17 among the lines of a draft, and damage among bytes.
+// Faults: one for each refusal from 3 to 18 among the lines of a draft, and damage among bytes.
 
 use super::draft::{words, Draft, Line, Section, RASTERS};
 use crate::random::Random;
@@ -102,6 +102,12 @@ fn put(random: &mut Random, draft: &mut Draft, name: &str, column: usize, field:
     }
 }
 
+/// Gives a raster another value, where it is defined.
+fn set_raster(lines: &mut [Line], name: &str, value: &str) {
+    let named = lines.iter_mut().filter(|line| line.first().is_some_and(|key| key == name));
+    named.for_each(|line| set(line, 1, value));
+}
+
 /// A fault that is meant to end in a refusal.
 pub fn spoil(random: &mut Random, draft: &mut Draft, refusal: u64) {
     if draft.sections.is_empty() {
@@ -121,6 +127,7 @@ pub fn spoil(random: &mut Random, draft: &mut Draft, refusal: u64) {
         15 => spoil_alignment(random, draft),
         16 => spoil_lengths(random, draft),
         17 => spoil_durations(random, draft),
+        18 => spoil_saying(random, draft),
         _ => spoil_fields(random, draft),
     }
 }
@@ -289,8 +296,7 @@ fn spoil_rasters(random: &mut Random, draft: &mut Draft) {
         if drop {
             lines.retain(|line| line.first().is_none_or(|key| key != name));
         }
-        let named = lines.iter_mut().filter(|line| line.first().is_some_and(|key| key == name));
-        named.for_each(|line| set(line, 1, &value));
+        set_raster(lines, name, &value);
     };
     if let Some(section) = section(draft, "DEFINITIONS") {
         change(&mut section.lines);
@@ -442,9 +448,7 @@ fn spoil_lengths(random: &mut Random, draft: &mut Draft) {
     if draft.new && random.once_in(2) {
         put(random, draft, "BLOCKS", 1, &value);
         if let Some(section) = section(draft, "DEFINITIONS") {
-            let rasters = section.lines.iter_mut();
-            let named = rasters.filter(|line| line.first().is_some_and(|key| key == RASTERS[3]));
-            named.for_each(|line| set(line, 1, &raster));
+            set_raster(&mut section.lines, RASTERS[3], &raster);
         }
         return;
     }
@@ -482,6 +486,36 @@ fn spoil_durations(random: &mut Random, draft: &mut Draft) {
         let less = random.between(1, 3).min(duration);
         if line.len() > 1 && random.once_in(2) {
             line[1] = (duration - less).to_string();
+        }
+    }
+}
+
+/// UNSAYABLE: an unknown extension, another raster at the site, or blocks off their raster.
+fn spoil_saying(random: &mut Random, draft: &mut Draft) {
+    match random.below(5) {
+        0 => {
+            let line = words(&["extension", random.pick(&["ROTATIONS", "labelinc"]), "4711"]);
+            match section(draft, "EXTENSIONS") {
+                Some(section) => section.lines.push(line),
+                None => {
+                    let lines = vec![line];
+                    draft.sections.insert(1, Section { name: "EXTENSIONS".to_string(), lines });
+                }
+            }
+        }
+        1 | 2 => {
+            let value = random.pick(&["1e-5", "1e-6", "2e-6", "0.00001", "1e-3"]);
+            set_raster(&mut draft.site, RASTERS[random.below(2)], value);
+        }
+        number => {
+            let value =
+                if number == 3 { random.pick(&["7e-6", "3.33e-7", "1e-3"]) } else { "1e-9" };
+            set_raster(&mut draft.site, RASTERS[3], value);
+            if let Some(section) = section(draft, "DEFINITIONS") {
+                set_raster(&mut section.lines, RASTERS[3], value);
+            }
+            let delay = random.pick(&["1000000", "1000001", "1000000000"]);
+            put(random, draft, "DELAYS", 1, delay);
         }
     }
 }

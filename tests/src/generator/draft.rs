@@ -51,6 +51,10 @@ struct Event {
 struct Maker<'a> {
     random: &'a mut Random,
     new: bool,
+    /// Whether both editions can say it, but for what only a timed file has.
+    tidy: bool,
+    /// Whether it may have what only 1.4 can say: time shapes and ONCE.
+    timed: bool,
     size: usize,
     rasters: [i64; 4],
     shapes: Vec<Shape>,
@@ -92,15 +96,22 @@ fn distinct_ids(random: &mut Random, count: usize) -> Vec<i64> {
 /// Makes a file that keeps every rule; `size` is about how many blocks it has at most.
 pub fn sound(random: &mut Random, size: usize) -> Draft {
     let new = random.once_in(2);
-    let rasters = [
-        random.pick(&[10_000, 10_000, 1_000, 20_000, 4_000, 1_500, 1_000_000]),
-        random.pick(&[1_000, 1_000, 2_000, 500, 10_000, 7_000, 100]),
-        random.pick(&[100, 100, 1_000, 50, 12_500, 3]),
-        random.pick(&[10_000, 10_000, 1_000, 1, 100_000, 333]),
-    ];
+    let tidy = !random.once_in(3);
+    let timed = new && random.once_in(if tidy { 4 } else { 2 });
+    let rasters = match tidy {
+        true => tidy_rasters(random, new),
+        false => [
+            random.pick(&[10_000, 10_000, 1_000, 20_000, 4_000, 1_500, 1_000_000]),
+            random.pick(&[1_000, 1_000, 2_000, 500, 10_000, 7_000, 100]),
+            random.pick(&[100, 100, 1_000, 50, 12_500, 3]),
+            random.pick(&[10_000, 10_000, 1_000, 1, 100_000, 333]),
+        ],
+    };
     let mut maker = Maker {
         random,
         new,
+        tidy,
+        timed,
         size,
         rasters,
         shapes: Vec::new(),
@@ -112,6 +123,18 @@ pub fn sound(random: &mut Random, size: usize) -> Draft {
         entries: Vec::new(),
     };
     maker.make()
+}
+
+/// Rasters with which events and blocks last whole microseconds, and mostly whole block rasters.
+fn tidy_rasters(random: &mut Random, new: bool) -> [i64; 4] {
+    let blocks: &[i64] =
+        if new { &[10_000, 1_000, 100_000] } else { &[1_000, 1_000, 500, 1, 10_000] };
+    [
+        random.pick(&[10_000, 10_000, 1_000, 20_000, 4_000, 1_000_000]),
+        random.pick(&[1_000, 1_000, 2_000, 10_000, 7_000]),
+        random.pick(&[100, 100, 1_000, 50, 12_500]),
+        random.pick(blocks),
+    ]
 }
 
 impl Maker<'_> {
@@ -128,7 +151,9 @@ impl Maker<'_> {
         }
         self.extension_section();
         self.block_section();
-        self.sections.retain(|section| !section.lines.is_empty() || section.name == "DEFINITIONS");
+        let keep = self.random.once_in(4);
+        let kept = |section: &Section| keep || section.name == "DEFINITIONS";
+        self.sections.retain(|section| !section.lines.is_empty() || kept(section));
         if self.random.once_in(4) {
             self.random.shuffle(&mut self.sections);
         } else {
@@ -165,6 +190,7 @@ impl Maker<'_> {
     fn definitions(&mut self) -> Vec<Line> {
         let mut file = Vec::new();
         let mut site = Vec::new();
+        let full_site = !self.random.once_in(5);
         for (number, name) in RASTERS.iter().enumerate() {
             let text = seconds(self.random, self.rasters[number]);
             let other = seconds(self.random, self.rasters[number]);
@@ -172,7 +198,7 @@ impl Maker<'_> {
             if in_file {
                 file.push(words(&[name, &text]));
             }
-            if !in_file || self.random.once_in(3) {
+            if !in_file || full_site || self.random.once_in(3) {
                 site.push(words(&[name, &other]));
             }
         }
@@ -182,6 +208,7 @@ impl Maker<'_> {
             ["TE", "0.005"],
             ["name", "µ  [x] # y"],
             ["TotalDuration", "0.04268"],
+            ["Note", "a\t b   c"],
             ["1", "1"],
         ];
         for extra in extras {
@@ -293,7 +320,7 @@ impl Maker<'_> {
 
     /// Microseconds that are a multiple of a raster.
     fn aligned(&mut self, raster: usize) -> i64 {
-        let raster = if self.new { self.rasters[raster] } else { 1 };
+        let raster = if self.new || self.tidy { self.rasters[raster] } else { 1 };
         let step = (1..=raster).find(|step| step * 1000 % raster == 0).unwrap_or(raster);
         step * self.random.between(0, 12)
     }
@@ -322,7 +349,7 @@ impl Maker<'_> {
     /// A time shape's ID for a count, or 0, with the length in rasters.
     fn timing(&mut self, count: usize) -> (i64, i64) {
         match self.find(Use::Time, Some(count)) {
-            Some((id, _, last)) if self.new && self.random.once_in(3) => (id, last),
+            Some((id, _, last)) if self.timed && self.random.once_in(2) => (id, last),
             _ => (0, count as i64),
         }
     }
@@ -397,8 +424,7 @@ impl Maker<'_> {
         let mut lines = Vec::new();
         let count = self.some();
         for id in distinct_ids(self.random, count) {
-            let raster = if self.new { self.rasters[2] } else { 1 };
-            let dwell = raster * self.random.between(1, 60);
+            let dwell = self.dwell();
             let num = self.random.between(1, 600);
             let delay = self.random.between(0, 150);
             let line = vec![
@@ -415,13 +441,26 @@ impl Maker<'_> {
         self.add("ADC", lines);
     }
 
+    /// A dwell time; a tidy one is whole microseconds.
+    fn dwell(&mut self) -> i64 {
+        let raster = if self.new || self.tidy { self.rasters[2] } else { 1 };
+        let step = match self.tidy {
+            true => (1..=1000).find(|step| step * raster % 1000 == 0).unwrap_or(1000),
+            false => 1,
+        };
+        step * raster * self.random.between(1, 60)
+    }
+
     /// The section DELAYS.
     fn delay_section(&mut self) {
         let mut lines = Vec::new();
         let count = self.some();
         for id in distinct_ids(self.random, count) {
-            let border = self.random.once_in(20);
-            let delay = if border { 1_000_000_000 } else { self.random.between(0, 9000) };
+            let delay = match self.random.once_in(20) {
+                true => 1_000_000_000,
+                false if self.tidy => 10 * self.random.between(0, 900),
+                false => self.random.between(0, 9000),
+            };
             lines.push(vec![integer(self.random, id), integer(self.random, delay)]);
             self.delays.push(Event { id, ns: delay * 1000 });
         }
@@ -433,9 +472,12 @@ impl Maker<'_> {
         if self.random.once_in(3) {
             return self.add("EXTENSIONS", Vec::new());
         }
-        let mut names = vec!["TRIGGERS", "LABELSET", "LABELINC", "ROTATIONS", "labelset_2"];
+        let mut names = vec!["TRIGGERS", "LABELSET", "LABELINC"];
+        if !self.tidy || self.random.once_in(12) {
+            names.extend(["ROTATIONS", "labelset_2"]);
+        }
         self.random.shuffle(&mut names);
-        names.truncate(1 + self.random.below(5));
+        names.truncate(1 + self.random.below(names.len()));
         let types = distinct_ids(self.random, names.len());
         let mut tail = Vec::new();
         let mut objects = Vec::new();
@@ -482,7 +524,7 @@ impl Maker<'_> {
                 let flag = self.random.pick(&["NAV", "REV", "SMS"]);
                 [self.random.between(0, 1).to_string(), flag.to_string()]
             }
-            1 if set && self.new => [self.random.between(0, big).to_string(), "ONCE".to_string()],
+            1 if set && self.timed => [self.random.between(0, big).to_string(), "ONCE".to_string()],
             2 if self.random.once_in(8) => ["-0".to_string(), "LIN".to_string()],
             _ => {
                 let name = self.random.pick(&counters);

@@ -108,6 +108,19 @@ pub fn rasters(file: &[u8], site: &[u8], sheet: &Sheet) -> Rasters {
     })
 }
 
+/// The four rasters of a site's text alone.
+pub fn site_rasters(site: &[u8]) -> Rasters {
+    RASTER_NAMES.map(|name| raster_of(site_value(site, name)?))
+}
+
+/// The value of a key in the site's text, as it stands there.
+pub fn site_value<'a>(site: &'a [u8], key: &str) -> Option<&'a [u8]> {
+    match in_site(site, key.as_bytes()) {
+        Part::Site(from, length) => Some(&site[from..from + length]),
+        _ => None,
+    }
+}
+
 /// A raster's text in ns: a decimal in seconds worth a whole 1 to 10^6 ns.
 fn raster_of(text: &[u8]) -> Option<i64> {
     whole(decimal(text)?, 9, 1, 1_000_000)

@@ -118,3 +118,11 @@ pub fn steps(value: Decimal, most: i64) -> Option<i64> {
     };
     (size <= i128::from(most)).then_some((size * mantissa.signum()) as i64)
 }
+
+/// A decimal written out: mantissa, then `e` and exponent if that is not 0.
+pub fn decimal_text(mantissa: i64, exponent: i64) -> String {
+    match exponent {
+        0 => mantissa.to_string(),
+        _ => format!("{mantissa}e{exponent}"),
+    }
+}

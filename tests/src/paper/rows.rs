@@ -1,6 +1,6 @@
 // Lines with columns, read into the numbers of a row.
 
-use super::numbers::{counter, decimal, integer, whole, M};
+use super::numbers::{counter, decimal, decimal_text, integer, whole, M};
 use super::Edition;
 
 /// The kinds of rows, by the number that comes first in them.
@@ -21,9 +21,15 @@ pub const TRIGGERS: i64 = 1;
 pub const LABELSET: i64 = 2;
 pub const LABELINC: i64 = 3;
 
+/// Their names, in the order of the codes.
+const EXTENSION_NAMES: [&str; 3] = ["TRIGGERS", "LABELSET", "LABELINC"];
+
 /// The labels, numbered from 1 in this order: nine counters, three flags, ONCE.
 const LABELS: [&str; 13] =
     ["LIN", "PAR", "SLC", "SEG", "REP", "AVG", "SET", "ECO", "PHS", "NAV", "REV", "SMS", "ONCE"];
+
+/// The number of ONCE among them.
+pub const ONCE: i64 = 13;
 
 /// What a column holds.
 #[derive(Clone, Copy)]
@@ -105,7 +111,7 @@ pub fn label_of(code: i64, edition: Edition, fields: &[&[u8]]) -> Option<Vec<i64
     let value = match label {
         1..=9 => counter(value)?,
         10..=12 if set => integer(value, 0, 1)?,
-        13 if set && edition == Edition::V14 => integer(value, 0, M)?,
+        ONCE if set && edition == Edition::V14 => integer(value, 0, M)?,
         _ => return None,
     };
     Some(vec![LABEL, id, i64::from(!set), value, label])
@@ -117,10 +123,38 @@ pub fn extension_code(name: &[u8]) -> Option<i64> {
     if name.is_empty() || name.len() > 32 || !name.iter().all(letter) {
         return None;
     }
-    Some(match name {
-        b"TRIGGERS" => TRIGGERS,
-        b"LABELSET" => LABELSET,
-        b"LABELINC" => LABELINC,
-        _ => 0,
-    })
+    let known = EXTENSION_NAMES.iter().position(|known| known.as_bytes() == name);
+    Some(known.map_or(0, |place| place as i64 + 1))
+}
+
+/// A row's line as an edition writes it: its columns with single spaces, or a form of its own.
+pub fn line_text(edition: Edition, numbers: &[i64]) -> String {
+    let fields = match numbers[0] {
+        EXTENSION => {
+            let name = EXTENSION_NAMES[numbers[2] as usize - 1];
+            vec!["extension".to_string(), name.to_string(), numbers[1].to_string()]
+        }
+        LABEL => {
+            let name = LABELS[numbers[4] as usize - 1];
+            vec![numbers[1].to_string(), numbers[3].to_string(), name.to_string()]
+        }
+        kind => fields_text(&columns_of(kind, edition), &numbers[1..]),
+    };
+    fields.join(" ") + "\n"
+}
+
+/// The fields of columns: a decimal from two numbers, any other from one, an absent one left out.
+fn fields_text(columns: &[Column], numbers: &[i64]) -> Vec<String> {
+    let mut fields = Vec::new();
+    let mut numbers = numbers.iter();
+    let mut next = || *numbers.next().expect("a number for each column");
+    for column in columns {
+        let number = next();
+        match column {
+            Column::Absent => {}
+            Column::Decimal => fields.push(decimal_text(number, next())),
+            _ => fields.push(number.to_string()),
+        }
+    }
+    fields
 }

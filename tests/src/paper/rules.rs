@@ -55,7 +55,7 @@ pub fn duplicate(file: &[u8], sheet: &Sheet) -> Option<u64> {
 pub struct Checked<'a> {
     pub sheet: &'a Sheet,
     pub rasters: Rasters,
-    samples: HashMap<i64, &'a [i64]>,
+    pub samples: HashMap<i64, &'a [i64]>,
     found: HashMap<(Class, i64), &'a Row>,
 }
 
@@ -75,7 +75,7 @@ impl<'a> Checked<'a> {
     }
 
     /// The row of a class with an ID.
-    fn row(&self, class: Class, id: i64) -> Option<&[i64]> {
+    pub fn row(&self, class: Class, id: i64) -> Option<&[i64]> {
         self.found.get(&(class, id)).map(|row| &row.numbers[..])
     }
 
@@ -118,7 +118,7 @@ impl<'a> Checked<'a> {
     }
 
     /// The class that an entry's ref is sought in; none for an unknown extension.
-    fn entry_class(&self, entry: &[i64]) -> Option<Class> {
+    pub fn entry_class(&self, entry: &[i64]) -> Option<Class> {
         match self.row(Class::Of(EXTENSION), entry[2])?[2] {
             TRIGGERS => Some(Class::Of(TRIGGER)),
             LABELSET => Some(Class::Of(LABEL)),
@@ -128,7 +128,7 @@ impl<'a> Checked<'a> {
     }
 
     /// The entries of a chain, as far as the 257th.
-    fn chain(&self, first: i64) -> Vec<&[i64]> {
+    pub fn chain(&self, first: i64) -> Vec<&[i64]> {
         let mut entries = Vec::new();
         let mut id = first;
         while let Some(entry) = self.row(Class::Of(ENTRY), id) {
@@ -179,11 +179,8 @@ impl<'a> Checked<'a> {
         self.rasters[number].expect("a needed raster")
     }
 
-    /// ALIGN: the first event of a 1.4 file that is off its raster.
+    /// ALIGN: the first event that is off its raster.
     pub fn misaligned(&self) -> Option<u64> {
-        if self.sheet.edition == Edition::V13 {
-            return None;
-        }
         let off =
             |microseconds: &i64, raster: usize| microseconds * 1000 % self.raster(raster) != 0;
         self.first(|row| match row[0] {

@@ -1,7 +1,7 @@
 // Shapes alone: stored values expanded into samples, and samples written as stored lines.
 
 use super::lines::{breaks_line, fields_of, kind_of, lines_of, Kind};
-use super::numbers::{decimal, integer, steps, whole, Decimal, ONE};
+use super::numbers::{decimal, decimal_text, integer, steps, whole, Decimal, ONE};
 use super::{Edition, FIELD, OUTPUT, ROOM, SHAPE};
 
 /// The largest size of a stored value, in steps.
@@ -93,6 +93,16 @@ pub fn write(samples: &[i64], edition: Edition, room: usize) -> Result<Vec<u8>, 
     if samples.is_empty() || samples.len() > COUNT_MOST as usize || samples.iter().any(beyond) {
         return Err(SHAPE);
     }
+    let text = stored_text(samples, edition);
+    if text.len() > room || text.len() > 1 << 24 {
+        return Err(OUTPUT);
+    }
+    Ok(text)
+}
+
+/// The stored lines of samples: for 1.4 the plain samples, unless run-length differences are fewer
+/// values; for 1.3 never plain.
+pub fn stored_text(samples: &[i64], edition: Edition) -> Vec<u8> {
     let mut values = run_length(samples);
     if edition == Edition::V14 && values.len() >= samples.len() {
         values = samples.iter().map(|&sample| sample_text(sample)).collect();
@@ -102,10 +112,7 @@ pub fn write(samples: &[i64], edition: Edition, room: usize) -> Result<Vec<u8>, 
         text.extend_from_slice(value.as_bytes());
         text.push(b'\n');
     }
-    if text.len() > room || text.len() > 1 << 24 {
-        return Err(OUTPUT);
-    }
-    Ok(text)
+    text
 }
 
 /// The run-length differences of samples, as texts.
@@ -123,7 +130,7 @@ fn run_length(samples: &[i64]) -> Vec<String> {
     values
 }
 
-/// A number of steps as mantissa, then `e` and exponent if that is not 0.
+/// A number of steps of 10^-12 as a decimal without trailing zeros.
 fn sample_text(steps: i64) -> String {
     let mut mantissa = steps;
     let mut exponent = -12;
@@ -131,9 +138,8 @@ fn sample_text(steps: i64) -> String {
         mantissa /= 10;
         exponent += 1;
     }
-    match (mantissa, exponent) {
-        (0, _) => "0".to_string(),
-        (_, 0) => mantissa.to_string(),
-        _ => format!("{mantissa}e{exponent}"),
+    match mantissa {
+        0 => decimal_text(0, 0),
+        _ => decimal_text(mantissa, exponent),
     }
 }
