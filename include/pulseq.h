@@ -1,5 +1,6 @@
 /*
- * Reading Pulseq .seq files of the editions 1.3 and 1.4: the library's functions for C.
+ * Reading and restating Pulseq .seq files of the editions 1.3 and 1.4: the library's functions for
+ * C.
  *
  * Each function answers for every input, allocates nothing, keeps nothing between calls, and reads
  * and writes only the slices that it is lent.
@@ -11,23 +12,25 @@
  * Answers. Each function writes its numbers into `answer`, in the order that its comment names. If
  * `answer` is shorter, it gets those that fit; if it is longer, the rest of it is zero.
  *
- * Refusals, by number, and which functions answer them when:
+ * Refusals, by number, and which functions answer them when; restate answers 1 to 17 as read does,
+ * and where it asks more, that is named:
  *
  *    0 ACCEPTED
  *    1 BIG        read: the file is over 2^24 bytes, or the site text over 4,096
  *    2 LINE       read: a line is over 1,024 bytes, or has a control byte other than tab outside
  *                 a comment
  *    3 VERSION    read: the first line that counts is not [VERSION], or the version is not 1.3.0,
- *                 1.3.1, 1.4.0 or 1.4.1; expand, write: the edition is neither 103 nor 104
+ *                 1.3.1, 1.4.0 or 1.4.1; expand, write, restate: the edition is neither 103 nor 104
  *    4 SECTION    read: a section is unknown, repeated, not of this edition, or after [SIGNATURE]
  *    5 FIELD      read: a wrong count of fields, or a field not of its form or range; expand: a
  *                 stored line is not one decimal or a comment, or num is not 1 to 1,000,000
  *    6 MISSING    read: there is no block, or in 1.4 no [DEFINITIONS]
  *    7 ROOM       read: the rows or samples do not fit into the lent tables; expand likewise
- *    8 SITE       read, 1.3 only: a line of the site text is no definition, comment or blank line,
- *                 repeats a key, or breaks LINE
+ *    8 SITE       read, 1.3 only, and restate, always: a line of the site text is no definition,
+ *                 comment or blank line, repeats a key, or breaks LINE
  *    9 DUPLICATE  read: an ID, type, extension name or definition key is met again in its class
- *   10 RASTER     read: a needed raster is absent or bad
+ *   10 RASTER     read: a needed raster is absent or bad; restate likewise, with those that the
+ *                 target needs
  *   11 SHAPE      read, expand: stored values do not expand to num_samples samples within
  *                 -100,000 to 100,000; write: no sample, over 1,000,000, or one beyond 100,000
  *   12 REFERENCE  read: an ID that is not 0, or an extension type, meets no row
@@ -36,7 +39,8 @@
  *   15 ALIGN      read, 1.4 only: a time is off its raster
  *   16 LONG       read: a block lasts over 10^12 ns
  *   17 OUTLASTS   read, 1.4 only: an event is longer than its block
- *   19 OUTPUT     write: the text does not fit into `out`, or is over 2^24 bytes
+ *   18 UNSAYABLE  restate: the target has no way to say what the file says
+ *   19 OUTPUT     restate, write: the text does not fit into `out`, or is over 2^24 bytes
  */
 #ifndef PULSEQ_H
 #define PULSEQ_H
@@ -51,7 +55,7 @@ extern "C" {
 /* Numbers of one row. */
 #define PULSEQ_ROW 12
 
-/* The editions, as expand and write take them. */
+/* The editions, as restate, expand and write take them. */
 #define PULSEQ_EDITION_1_3 103
 #define PULSEQ_EDITION_1_4 104
 
@@ -88,6 +92,37 @@ extern "C" {
 void pulseq_read(const uint8_t *file, size_t file_len, const uint8_t *site, size_t site_len,
                  int64_t *rows, size_t rows_len, int64_t *samples, size_t samples_len,
                  uint64_t *answer, size_t answer_len);
+
+/*
+ * Reads and checks a file, and writes it anew in the edition 1.3.1 or 1.4.1.
+ *
+ * `file` and `site` are as in pulseq_read; `target` is 103 for 1.3.1 or 104 for 1.4.1. The rasters
+ * that a 1.3 file does not name are the site's. Restating to 1.3.1 needs the site's
+ * GradientRasterTime and RadiofrequencyRasterTime, whatever the file names; restating to 1.4.1
+ * needs those two, AdcRasterTime and BlockDurationRaster, in a 1.4 file its own.
+ *
+ * answer: the refusal's number or 0; the line that it is about, counted from 1, or 0; rows used;
+ * samples used; the length of the text in bytes. The last three are 0 on refusal. A target other
+ * than 103 and 104 is 3 VERSION at line 0, asked before everything else; then come 1 to 17 as in
+ * pulseq_read, 18 and 19, the last two at line 0.
+ *
+ * UNSAYABLE is a file that declares an unknown extension; for 1.3.1 one with an RF or gradient row
+ * that names a time shape, an RF or gradient raster of another worth than the site's, a block that
+ * is not whole us, or a label row that names ONCE; for 1.4.1 one with a time off its raster, or a
+ * block that is not 0 to 10^9 whole BlockDurationRasters.
+ *
+ * `rows` and `samples` get what was read, as in pulseq_read. `out` gets the text. Every number and
+ * byte of the three is written: past the used part, and throughout on refusal, it is zero.
+ *
+ * The text plays the same as the file: it has the same blocks in the same order with their
+ * durations, the same events and samples. IDs stay, but for 1.3.1 the delays are made anew.
+ * Comments and the signature are left out; for 1.4.1 the rasters that the file does not name are
+ * added to its definitions.
+ */
+void pulseq_restate(const uint8_t *file, size_t file_len, const uint8_t *site, size_t site_len,
+                    uint64_t target, int64_t *rows, size_t rows_len, int64_t *samples,
+                    size_t samples_len, uint8_t *out, size_t out_len, uint64_t *answer,
+                    size_t answer_len);
 
 /*
  * Expands the stored lines of one shape, such as pulseq_stored finds.
