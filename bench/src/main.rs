@@ -1,7 +1,7 @@
-// How fast the library reads: files of 100 KB, 1 MB and just below 2^24 bytes, made in memory, and
-// read with tables that are large enough. Each size comes behind one of half its size, from which
-// its time is foretold; one that would take over two minutes is not run. The time includes the
-// clearing of the tables, which the library does itself.
+// How fast the library reads and restates: files of 100 KB, 1 MB and 16 MB, made in memory, with
+// tables and an output that are large enough. Each size comes behind one of half its size, from
+// which its time is foretold; one that would take over two minutes is not run. The time includes
+// the clearing of what is lent, which the library does itself.
 
 #[cfg(library)]
 mod measure;
