@@ -6,7 +6,7 @@ use lib.IntN.{ℤ, pos}
 use Rattle.signed.specs.Signed.{sameZ}
 use Rattle.tables.specs.Tables.{firstSuch, numberAt}
 use Rattle.sayable.specs.Sayable.{nanosAt}
-use Rattle.durations.specs.Durations.{isAlike, firstUse, isFirst, useCount, usesIn, delayNumber}
+use Rattle.durations.specs.Durations.{isAlike, firstUse, isFirst, useCount, usesIn, delayNumber, useList, usesList, standsAt}
 
 -- a row of a kind, with its tenth number
 abbrev lasting : ℕ → ℕ → List ℤ
@@ -32,3 +32,16 @@ second-is-2 = refl
 again-is-2 : delayNumber blocks 6 5 ≡ 2
 unfolding delayNumber usesIn useCount isFirst firstUse isAlike firstSuch numberAt nanosAt sameZ blocks
 again-is-2 = refl
+
+-- the list of their durations, and where one stands in it
+listed : usesList blocks 6 0 6 ≡ 2000 ∷ 5000 ∷ []
+unfolding usesList useList isFirst firstUse isAlike firstSuch numberAt nanosAt sameZ blocks
+listed = refl
+
+stands-second : standsAt (2000 ∷ 5000 ∷ []) 5000 ≡ 1
+unfolding standsAt
+stands-second = refl
+
+stands-nowhere : standsAt (2000 ∷ 5000 ∷ []) 3000 ≡ 2
+unfolding standsAt
+stands-nowhere = refl

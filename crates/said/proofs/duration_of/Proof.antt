@@ -9,8 +9,8 @@ use Rattle.said.proofs.duration_of.Tie as tie
 enum-told : tie.Need-enum-told
 enum-told c = search needs
 
-delay-number-requires : tie.Need-delay-number-requires
-delay-number-requires c κs = search needs
+delay-of-requires : tie.Need-delay-of-requires
+delay-of-requires c κs = search needs
 
 enum-told-2 : tie.Need-enum-told-2
 enum-told-2 c = search needs
@@ -25,7 +25,7 @@ steps-of-requires : tie.Need-steps-of-requires
 steps-of-requires c κs = search needs
 
 returns : tie.Need-returns
-returns c = c .delay-number .ensures ∙ duration-13 _ _ _ _ _ (c .before .enum-told .given .1)
+returns c = c .delay-of .ensures ∙ duration-13 _ _ _ _ _ (c .before .enum-told .given .1)
 
 returns-2 : tie.Need-returns-2
 returns-2 c = let s = c .before in let m = s .before in
@@ -36,7 +36,7 @@ duration-of-spec =
     tie.close
     (tie.spec
     enum-told
-    delay-number-requires
+    delay-of-requires
     enum-told-2
     nanos-at-requires
     steps-requires

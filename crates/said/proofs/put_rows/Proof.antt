@@ -1,49 +1,40 @@
--- `said::put_rows` meets its contract. The loop's invariant: what was written and the lines of the rows that are left make up the text (`LinesPut`). Assumes nothing.
-use borrow.Author.Needs.{needs}
-use Prim.Native.Nat.{_-_}
+-- `said::put_rows` meets its contract. Assumes nothing.
 use native.Mathlib.Omega.{arith}
-use Rattle.said.specs.Said.{rowLine}
-use Rattle.said.proofs.Saying.{LinesPut, lines-start, lines-length, lines-turn, lines-end}
+use lib.Seq.{length-take-le}
+use mathlib.Core.Path.{sym}
+use borrow.Author.Needs.{needs}
 use Rattle.said.proofs.put_rows.Statement.{statement}
 use Rattle.said.proofs.put_rows.Tie as tie
 
-abbrev Inv-loop : tie.InvT-loop
-Inv-loop out₀ at target raster form rows n place₀ k₀ out place k = LinesPut (rowLine target (raster .0) form rows n) n out₀ at place out k
+slice-aggregate-list-for : tie.Need-slice-aggregate-list-for
+slice-aggregate-list-for c = search needs
 
-abbrev μ-loop : tie.MeasureT-loop
-μ-loop out₀ at target raster form rows n place₀ k₀ out place k = n - k
+list-for-requires : tie.Need-list-for-requires
+list-for-requires c κs = search needs
 
-loop-holds : tie.Need-loop-holds Inv-loop μ-loop
-loop-holds c = lines-start _ _ _ _ (omega arith) (omega arith)
+array-share-prefix-found : tie.Need-array-share-prefix-found
+array-share-prefix-found c = search needs
 
-put-if-requires : tie.Need-put-if-requires Inv-loop μ-loop
-put-if-requires c κs = search needs
+slice-aggregate-put-listed : tie.Need-slice-aggregate-put-listed
+slice-aggregate-put-listed c = let u = c .before .before .before .list-for in sym (length-take-le _ _ (omega (arith, u .ensures .0, u .kept .1 .1 .0)))
 
-add-k : tie.Need-add-k Inv-loop μ-loop
-add-k c = search needs
+put-listed-requires : tie.Need-put-listed-requires
+put-listed-requires c κs = search needs
 
-loop-less : tie.Need-loop-less Inv-loop μ-loop
-loop-less c = omega (arith, c .before .before .before .before .loop-test .taken)
+same-length : tie.Need-same-length
+same-length c = search needs
 
-loop-again : tie.Need-loop-again Inv-loop μ-loop
-loop-again c = let p = c .before .before in let l = p .before .before in lines-turn _ _ (l .before .loop .inv) (l .loop-test .taken) (p .put-if .ensures)
-
-same-length : tie.Need-same-length Inv-loop μ-loop
-same-length c = lines-length _ _ (c .before .loop .inv)
-
-returns : tie.Need-returns Inv-loop μ-loop
-returns c = lines-end _ _ (c .before .loop .inv) (c .loop-test .left)
+returns : tie.Need-returns
+returns c = search needs
 
 pub put-rows-spec : {M : Type 1} → statement M
 put-rows-spec =
     tie.close
     (tie.spec
-    Inv-loop
-    μ-loop
-    loop-holds
-    put-if-requires
-    add-k
-    loop-less
-    loop-again
+    slice-aggregate-list-for
+    list-for-requires
+    array-share-prefix-found
+    slice-aggregate-put-listed
+    put-listed-requires
     same-length
     returns)

@@ -1,17 +1,11 @@
 -- `section_text::put_delay` meets its contract. Assumes nothing.
-use Rattle.signed.proofs.Machine.{rd-at}
-use Rattle.section_text.proofs.Putting.{delay-line, delay-none}
-use Rattle.section_text.specs.Sections.{wholeMicros}
 use mathlib.Core.Path.{_∙_, ap}
+use Rattle.section_text.specs.Sections.{wholeMicros}
+use Rattle.section_text.proofs.Putting.{line-new, line-old}
+use Rattle.signed.proofs.Machine.{rd-at}
 use borrow.Author.Needs.{needs}
 use Rattle.section_text.proofs.put_delay.Statement.{statement}
 use Rattle.section_text.proofs.put_delay.Tie as tie
-
-is-first-requires : tie.Need-is-first-requires
-is-first-requires c κs = search needs
-
-delay-number-requires : tie.Need-delay-number-requires
-delay-number-requires c κs = search needs
 
 plain-number-requires : tie.Need-plain-number-requires
 plain-number-requires c κs = search needs
@@ -38,8 +32,8 @@ same-length : tie.Need-same-length
 same-length c = search needs
 
 returns : tie.Need-returns
-returns c = let p = c .before .before in let y = p .before .before .before in let w = y .before in let m = w .before in let s = m .before in let x = s .before in let d = x .before in let t = d .before in
-    rw (← delay-line _ _ _ _ (t .before .is-first .ensures) (t .if1 .taken) _ _ _ (d .delay-number .ensures) (s .nanos-at .ensures) (w .whole-micros .ensures ∙ ap wholeMicros (m .micros .ensures)) _ _ (rd-at _ (x .plain-number .ok) ∙ x .plain-number .ensures) (rd-at _ (y .plain-number2 .ok) ∙ y .plain-number2 .ensures)) (p .put-line .ensures)
+returns c = let p = c .before .before in let y = p .before .before .before in let w = y .before in let m = w .before in let s = m .before in let x = s .before in
+    rw (← line-new _ _ _ _ (x .before .if1 .taken) _ _ (s .nanos-at .ensures) (w .whole-micros .ensures ∙ ap wholeMicros (m .micros .ensures)) _ _ (rd-at _ (x .plain-number .ok) ∙ x .plain-number .ensures) (rd-at _ (y .plain-number2 .ok) ∙ y .plain-number2 .ensures)) (p .put-line .ensures)
 
 slice-aggregate-put-bytes : tie.Need-slice-aggregate-put-bytes
 slice-aggregate-put-bytes c = search needs
@@ -51,15 +45,12 @@ same-length-2 : tie.Need-same-length-2
 same-length-2 c = search needs
 
 returns-2 : tie.Need-returns-2
-returns-2 c = let p = c .before .before in let e = p .before .before .before in
-    rw (← delay-none _ _ _ _ (e .before .is-first .ensures) (e .if1 .left)) (p .put-bytes .ensures)
+returns-2 c = let p = c .before .before in rw (← line-old _ _ _ _ (p .before .before .before .if1 .left)) (p .put-bytes .ensures)
 
 pub put-delay-spec : {M : Type 1} → statement M
 put-delay-spec =
     tie.close
     (tie.spec
-    is-first-requires
-    delay-number-requires
     plain-number-requires
     nanos-at-requires
     micros-requires
