@@ -6,3 +6,4 @@ pub mod Within
 pub mod Going
 pub mod RowBack
 pub mod SectionBack
+pub mod Ranging
