@@ -1,5 +1,9 @@
--- A restated text keeps the paper's limits.
+-- A restated text keeps the paper's limits; and its lines read back.
 pub mod Cut
 pub mod Sections
 pub mod Rows
 pub mod Within
+pub mod Going
+pub mod RowBack
+pub mod SectionBack
+pub mod Ranging

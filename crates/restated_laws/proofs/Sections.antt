@@ -68,7 +68,7 @@ three-short a b c h k l =
 
 -- ---- the sections of rows
 module _ (rows : List ℤ) (n : ℕ) where
-  delay-row-small : (k : ℕ) → AllSmall (delayRow rows n k)
+  pub delay-row-small : (k : ℕ) → AllSmall (delayRow rows n k)
   unfolding delayRow
   delay-row-small k =
       let number = pos (min (delayNumber rows n k) largest) in

@@ -114,14 +114,19 @@ columns-few target Delay = omega arith
 columns-few target Entry = omega arith
 columns-few target Trigger = omega arith
 
-pub row-short : (target : Edition) (form : Form) (row : List ℤ) → AllSmall row → Short (lineText target form row)
-unfolding lineText rowText
-row-short target form row p =
-    let ks = columnsOf target form in
-    let a = joined-spaced (textsOf ks (drop 1 row)) in
-    let b = spaced-short ks (drop 1 row) (drop-small 1 row p) in
-    let c = columns-few target form in
-    short-line (joined (textsOf ks (drop 1 row))) (omega arith) short-none
+module _ (target : Edition) (form : Form) (row : List ℤ) (small : AllSmall row) where
+  pub row-length : length (rowText (columnsOf target form) (drop 1 row)) ≤ 1024
+  unfolding rowText
+  row-length =
+      let ks = columnsOf target form in
+      let a = joined-spaced (textsOf ks (drop 1 row)) in
+      let b = spaced-short ks (drop 1 row) (drop-small 1 row small) in
+      let c = columns-few target form in
+      omega arith
+
+  pub row-short : Short (lineText target form row)
+  unfolding lineText
+  row-short = short-line (rowText (columnsOf target form) (drop 1 row)) row-length short-none
 
 -- ---- a row as a target says it, and the rows of a form
 module _ (rows : List ℤ) (small : Small rows) where
@@ -139,7 +144,7 @@ module _ (rows : List ℤ) (small : Small rows) where
     unfolding durationNumber
     duration-small k = omega arith
 
-    said-small : (k : ℕ) → AllSmall (saidRow target raster rows n k)
+    pub said-small : (k : ℕ) → AllSmall (saidRow target raster rows n k)
     unfolding saidRow
     said-small k = go (isBlock rows k)
       where
