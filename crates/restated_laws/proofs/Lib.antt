@@ -7,3 +7,5 @@ pub mod Going
 pub mod RowBack
 pub mod SectionBack
 pub mod Ranging
+pub mod ListedBack
+pub mod ShapeBack

@@ -58,7 +58,7 @@ use Rattle.restated_laws.proofs.RowBack.{ownOf, plain-line, row-plain, 
 abbrev pub versioned : Edition → State
 versioned target = record { place = Section None; edition = target; seen = set (replicate 12 false) 1 true; samples = 0 }
 
-line-of : (l : List ℕ) → anyControl l ≡ false → {st next : State} {n : ℕ} → stepOf st n l ≡ wentOf next → Goes st n (l ++ (10 ∷ [])) [] [] next (suc n)
+pub line-of : (l : List ℕ) → anyControl l ≡ false → {st next : State} {n : ℕ} → stepOf st n l ≡ wentOf next → Goes st n (l ++ (10 ∷ [])) [] [] next (suc n)
 line-of l c e = goes-went l (plain-line l c) e
 
 pub version-back : (target : Edition) → Goes fresh 1 (versionText target) [] [] (versioned target) 6
@@ -128,7 +128,7 @@ isHeaded Trigger = false
 abbrev pub inRows : State → Form → State
 inRows st form = entered st (headNumber form) (Section (Rows form))
 
-head-line : (st : State) (n : ℕ) (line : List ℕ) (k : ℕ) → anyControl line ≡ false → breaksLine line ≡ false → markOf line ≡ SectionLine → sectionNo line ≡ k → Open st k
+pub head-line : (st : State) (n : ℕ) (line : List ℕ) (k : ℕ) → anyControl line ≡ false → breaksLine line ≡ false → markOf line ≡ SectionLine → sectionNo line ≡ k → Open st k
     → Goes st n (line ++ (10 ∷ [])) [] [] (entered st k (placeIn k)) (suc n)
 head-line st n line k c b m e o = line-of line c (head-step st n line k b m e o)
 

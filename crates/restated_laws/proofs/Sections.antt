@@ -61,10 +61,14 @@ name-short : (names : List (List ℕ)) (z : ℤ) → longest names ≤ 20 → le
 unfolding wordAt
 name-short names z h = let m = word-most ([] ∷ names) (natAbs z) in omega arith
 
-three-short : (a b c : List ℕ) → length a ≤ 20 → length b ≤ 20 → length c ≤ 20 → Short (threeWords a b c)
-unfolding threeWords joined spaced
-three-short a b c h k l =
-    short-line (joined (a ∷ b ∷ c ∷ [])) (omega (arith, length-append a (32 ∷ b ++ (32 ∷ c ++ [])), length-append b (32 ∷ c ++ []), length-append c [])) short-none
+module _ (a b c : List ℕ) (h : length a ≤ 20) (k : length b ≤ 20) (l : length c ≤ 20) where
+  pub three-length : length (joined (a ∷ b ∷ c ∷ [])) ≤ 1024
+  unfolding joined spaced
+  three-length = omega (arith, length-append a (32 ∷ b ++ (32 ∷ c ++ [])), length-append b (32 ∷ c ++ []), length-append c [])
+
+  three-short : Short (threeWords a b c)
+  unfolding threeWords
+  three-short = short-line (joined (a ∷ b ∷ c ∷ [])) three-length short-none
 
 -- ---- the sections of rows
 module _ (rows : List ℤ) (n : ℕ) where
