@@ -1,12 +1,12 @@
 -- The lines of EXTENSIONS, as a text is restated, read back one by one. Assumes nothing.
 use Prim.Native.Nat.{ℕ, zero, suc, _^_, _≤_, _<_}
 use mathlib.Core.Bool.{Bool, true, false, cond}
-use mathlib.Core.List.{List, [], _∷_}
+use mathlib.Core.List.{List, [], _∷_, append-nil}
 use mathlib.Core.Path.{_≡_, refl, ap, _∙_}
 use native.Mathlib.Omega.{arith}
 use borrow.Author.Tests.{ne-eqb}
 use lib.IntN.{ℤ, pos, natAbs}
-use lib.ListN.{length, getD, drop}
+use lib.ListN.{length, getD, drop, set}
 use Rattle.text.specs.Marks.{isBlank, isControl, anyControl, markOf, isComment, breaksLine}
 use Rattle.text.specs.Blanks.{blankLen}
 use Rattle.text.specs.declared.Mark.the-variants.{Plain}
@@ -29,7 +29,7 @@ use Rattle.print.proofs.Naturals.{natural-text}
 use Rattle.print.proofs.Figures.{signed-visible, signed-some}
 use Rattle.shape.specs.declared.Edition.{Edition}
 use Rattle.shape_text.proofs.Figures.{number-mark}
-use Rattle.columns.specs.Columns.{columnsOf, extensionKind, labelKind}
+use Rattle.columns.specs.Columns.{columnsOf, formNumber, extensionKind, labelKind}
 use Rattle.columns.specs.Rows.{padded}
 use Rattle.columns.specs.declared.Form.{Form}
 use Rattle.columns.specs.declared.Form.the-variants.{Entry, Trigger}
@@ -45,11 +45,13 @@ use Rattle.places.specs.declared.Listed.the-variants.{Entries, Triggers, Labels
 use Rattle.places.specs.declared.Place.the-variants.{Extensions}
 use Rattle.places.specs.declared.State.{State}
 use Rattle.grammar.specs.Steps.{blankStep, rowStep, markedStep, labelRow, labelStep, listedOf, extensionRow, extensionStep, isExtension, listedStep, extensionsStep, plainStep, stepOf}
-use Rattle.said.specs.Said.{lineText}
-use Rattle.said.proofs.Short.{AllSmall, row-length, signed-short}
-use Rattle.extension_text.specs.Extensions.{wordAt, threeWords, extensionLine, labelLine, extensionsHead}
+use Rattle.file.specs.Rows.{Placed}
+use Rattle.sayable.specs.Sayable.{isKind}
+use Rattle.said.specs.Said.{numbersAt, lineText, linesText}
+use Rattle.said.proofs.Short.{AllSmall, Small, row-length, signed-short, numbers-small}
+use Rattle.extension_text.specs.Extensions.{wordAt, threeWords, extensionLine, labelLine, listedLine, hasListed, extensionsHead, extensionSection}
 use Rattle.restated_laws.proofs.Sections.{three-length}
-use Rattle.restated_laws.proofs.Going.{Goes, goes-row}
+use Rattle.restated_laws.proofs.Going.{Goes, goes-none, goes-then, goes-row}
 use Rattle.restated_laws.proofs.RowBack.{plain-line, spaced-plain, joined-plain, row-plain, row-mark, plain-step, row-step-back}
 use Rattle.restated_laws.proofs.SectionBack.{line-of, Open, head-line, InRangeOf, backRow}
 
@@ -226,3 +228,52 @@ extensions-head-back st n o = head-line st n (91 ∷ 69 ∷ 88 ∷ 84 ∷ 69 ∷
 pub extensions-blank-back : (st : State) (n : ℕ) (listed : Listed) → st .place ≡ Extensions listed → Goes st n (10 ∷ []) [] [] st (suc n)
 unfolding anyControl breaksLine isComment markOf blankStep markedStep stepOf
 extensions-blank-back st n listed p = line-of [] refl (rw p)
+
+-- ---- The section. Rows that may stand in it one after another, in this order: m rows from row k on, read where `listed` is; the rows that they give,
+-- from line n on, where reading is then, and the number of the next line
+pub data Listing (e : Edition) (rows : List ℤ) : Listed → ℕ → ℕ → ℕ → List Placed → Listed → ℕ → Type 0 where
+  list-end : {listed : Listed} {n k : ℕ} → Listing e rows listed n k 0 [] listed n
+  list-other : {listed last : Listed} {n k m end : ℕ} {rs : List Placed} → isKind rows k (pos (formNumber Entry)) ≡ false → isKind rows k (pos extensionKind) ≡ false
+      → isKind rows k (pos (formNumber Trigger)) ≡ false → isKind rows k (pos labelKind) ≡ false → Listing e rows listed n (suc k) m rs last end → Listing e rows listed n k (suc m) rs last end
+  list-entry : {last : Listed} {n k m end : ℕ} {rs : List Placed} → isKind rows k (pos (formNumber Entry)) ≡ true → InRangeOf e Entry (numbersAt rows k)
+      → Listing e rows Entries (suc n) (suc k) m rs last end → Listing e rows Entries n k (suc m) (record { line = n; cells = backRow e Entry (numbersAt rows k) } ∷ rs) last end
+  list-extension : {listed last : Listed} {n k m end : ℕ} {rs : List Placed} (type code : ℕ) → isKind rows k (pos (formNumber Entry)) ≡ false → isKind rows k (pos extensionKind) ≡ true
+      → numberAt rows k 1 ≡ pos type → numberAt rows k 2 ≡ pos code → 1 ≤ type → type ≤ largestId → 1 ≤ code → code ≤ 3 → Listing e rows (listedOf code) (suc n) (suc k) m rs last end
+      → Listing e rows listed n k (suc m) (record { line = n; cells = padded extensionKind (pos type ∷ pos code ∷ []) } ∷ rs) last end
+  list-trigger : {last : Listed} {n k m end : ℕ} {rs : List Placed} → isKind rows k (pos (formNumber Entry)) ≡ false → isKind rows k (pos extensionKind) ≡ false
+      → isKind rows k (pos (formNumber Trigger)) ≡ true → InRangeOf e Trigger (numbersAt rows k) → Listing e rows Triggers (suc n) (suc k) m rs last end
+      → Listing e rows Triggers n k (suc m) (record { line = n; cells = backRow e Trigger (numbersAt rows k) } ∷ rs) last end
+  list-label : {last : Listed} {n k m end : ℕ} {rs : List Placed} (increment : Bool) (id label : ℕ) (v : ℤ) → isKind rows k (pos (formNumber Entry)) ≡ false → isKind rows k (pos extensionKind) ≡ false
+      → isKind rows k (pos (formNumber Trigger)) ≡ false → isKind rows k (pos labelKind) ≡ true → numberAt rows k 1 ≡ pos id → numberAt rows k 3 ≡ v → numberAt rows k 4 ≡ pos label → 1 ≤ id
+      → id ≤ largestId → natAbs v ≤ largestId → 1 ≤ label → label ≤ 13 → labelValue e increment label (signedText v) ≡ SignedValue v → Listing e rows (Labels increment) (suc n) (suc k) m rs last end
+      → Listing e rows (Labels increment) n k (suc m) (record { line = n; cells = padded labelKind (pos id ∷ pos (cond increment 1 0) ∷ v ∷ pos label ∷ []) } ∷ rs) last end
+
+abbrev pub listedAt : Edition → List Bool → ℕ → Listed → State
+listedAt e seen samples listed = record { place = Extensions listed; edition = e; seen = seen; samples = samples }
+
+pub listed-lines-back : (e : Edition) (rows : List ℤ) → Small rows → (seen : List Bool) (samples : ℕ) {listed last : Listed} {n k m end : ℕ} {rs : List Placed} → Listing e rows listed n k m rs last end
+    → Goes (listedAt e seen samples listed) n (linesText (listedLine e rows) k m) rs [] (listedAt e seen samples last) end
+unfolding linesText listedLine
+listed-lines-back e rows small seen samples list-end = goes-none
+listed-lines-back e rows small seen samples (list-other a b c d x) = rw (a, b, c, d) (listed-lines-back e rows small seen samples x)
+listed-lines-back e rows small seen samples (list-entry {n = n} {k = k} a r x) =
+    rw a (goes-then (entry-back (listedAt e seen samples Entries) n (numbersAt rows k) (numbers-small rows small k) refl r) (listed-lines-back e rows small seen samples x))
+listed-lines-back e rows small seen samples (list-extension {listed = listed} {n = n} {k = k} type code a b t c l m o h x) =
+    rw (a, b) (goes-then (extension-back (listedAt e seen samples listed) n rows k listed refl type code t c l m o h) (listed-lines-back e rows small seen samples x))
+listed-lines-back e rows small seen samples (list-trigger {n = n} {k = k} a b c r x) =
+    rw (a, b, c) (goes-then (trigger-back (listedAt e seen samples Triggers) n (numbersAt rows k) (numbers-small rows small k) refl r) (listed-lines-back e rows small seen samples x))
+listed-lines-back e rows small seen samples (list-label {n = n} {k = k} increment id label v a b c d i w j l m g o h value x) =
+    rw (a, b, c, d)
+    (goes-then (label-back (listedAt e seen samples (Labels increment)) n rows k increment refl id label v i w j l m g o h value) (listed-lines-back e rows small seen samples x))
+
+-- with its head and its blank line
+pub extensions-back : (st : State) (n : ℕ) (rows : List ℤ) (count : ℕ) → Open st 8 → Small rows → hasListed rows count ≡ true → {last : Listed} {end : ℕ} {rs : List Placed}
+    → Listing (st .edition) rows Entries (suc n) 0 count rs last end
+    → Goes st n (extensionSection (st .edition) rows count) rs [] (listedAt (st .edition) (set (st .seen) 8 true) (st .samples) last) (suc end)
+unfolding extensionSection
+extensions-back st n rows count o small h {last} {end} {rs} x =
+    rw (h)
+    (rw (append-nil rs) at
+    (goes-then (extensions-head-back st n o)
+    (goes-then (listed-lines-back (st .edition) rows small (set (st .seen) 8 true) (st .samples) x)
+    (extensions-blank-back (listedAt (st .edition) (set (st .seen) 8 true) (st .samples) last) end last refl))))
