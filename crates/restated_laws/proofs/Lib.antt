@@ -9,3 +9,4 @@ pub mod SectionBack
 pub mod Ranging
 pub mod ListedBack
 pub mod ShapeBack
+pub mod DefinedBack
