@@ -69,7 +69,7 @@ module _ (l : List ℕ) (count : ℕ) (rows : List ℤ) (k : ℕ) (b : Bool) (p 
   unfolding newUse over
   noted-none e = (rw (← p, e) (omega arith), rw (← p, e))
 
-pub new-few : (list : List ℕ) (rows : List ℤ) (k : ℕ) → length (newUse list rows k) ≤ 1
+new-few : (list : List ℕ) (rows : List ℤ) (k : ℕ) → length (newUse list rows k) ≤ 1
 unfolding newUse
 new-few list rows k = go (isNew list rows k)
   where

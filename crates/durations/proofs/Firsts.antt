@@ -32,7 +32,7 @@ module _ (rows : List ℤ) (n : ℕ) where
       let b = and-both (not (eqb (nanosAt rows k) 0)) (eqb (firstUse rows n k) k) e in
       record { lasts = eqb-false (nanosAt rows k) 0 (not-true (eqb (nanosAt rows k) 0) (b .0)); own = eqb-true (firstUse rows n k) k (b .1) }
 
-  pub is-first : (k : ℕ) → (nanosAt rows k ≡ 0 → ⊥) → firstUse rows n k ≡ k → isFirst rows n k ≡ true
+  is-first : (k : ℕ) → (nanosAt rows k ≡ 0 → ⊥) → firstUse rows n k ≡ k → isFirst rows n k ≡ true
   unfolding isFirst
   is-first k z e = rw (ne-eqb (nanosAt rows k) 0 z, eq-eqb (firstUse rows n k) k e)
 

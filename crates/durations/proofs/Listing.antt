@@ -14,11 +14,11 @@ use lib.ListN.{length, take, length-append}
 use Rattle.blocks.specs.Blocks.{isBlock}
 use Rattle.sayable.specs.Sayable.{nanosAt}
 use Rattle.durations.specs.Durations.{firstUse, isFirst, useCount, usesIn, delayNumber, useList, usesList, FirstUsed, standsAt, isNew, newUse}
-use Rattle.durations.proofs.Using.{number-used}
+use Rattle.durations.proofs.Using.{number-used, use-one}
 use Rattle.durations.proofs.Firsts.{first-at, first-alike, same-first, used-nanos, used-first, used-most, not-first}
 
 -- ---- where a number stands
-pub stands-most : (x : ℕ) (list : List ℕ) → standsAt list x ≤ length list
+stands-most : (x : ℕ) (list : List ℕ) → standsAt list x ≤ length list
 unfolding standsAt
 stands-most x [] = omega arith
 stands-most x (y ∷ list) = go (eqb y x) (stands-most x list)
@@ -63,7 +63,7 @@ module _ (rows : List ℤ) (n : ℕ) where
   uses-split k zero b j e = let q : j ≡ k = omega arith in let z : 0 + b ≡ b = omega arith in rw (q, z)
   uses-split k (suc a) b j e = let z : suc a + b ≡ suc (a + b) = omega arith in rw (z, append-assoc, uses-split (suc k) a b j (omega arith))
 
-  pub uses-next : (k : ℕ) → usesList rows n 0 (suc k) ≡ usesList rows n 0 k ++ useList rows n k
+  uses-next : (k : ℕ) → usesList rows n 0 (suc k) ≡ usesList rows n 0 k ++ useList rows n k
   unfolding usesList
   uses-next k =
       let s : usesList rows n 0 (k + 1) ≡ usesList rows n 0 k ++ (useList rows n k ++ []) = uses-split 0 k 1 k (omega arith) in
@@ -80,24 +80,16 @@ module _ (rows : List ℤ) (n : ℕ) where
   pub uses-more : (k m : ℕ) → k ≤ m → usesIn rows n 0 k ≤ usesIn rows n 0 m
   uses-more k m h = let e : k + (m - k) ≡ m = omega arith in let s = rw e at (uses-add k (m - k)) in omega arith
 
-  one-used : (k : ℕ) → isFirst rows n k ≡ true → useCount rows n k ≡ 1
-  unfolding useCount
-  one-used k e = rw e
-
   -- a first use is counted
-  pub uses-less : (j k : ℕ) → isFirst rows n j ≡ true → j < k → usesIn rows n 0 j < usesIn rows n 0 k
+  uses-less : (j k : ℕ) → isFirst rows n j ≡ true → j < k → usesIn rows n 0 j < usesIn rows n 0 k
   unfolding usesIn
   uses-less j k f h =
       let e : j + suc (k - suc j) ≡ k = omega arith in
       let s : usesIn rows n 0 k ≡ usesIn rows n 0 j + (useCount rows n j + usesIn rows n (suc j) (k - suc j)) = rw e at (uses-add j (suc (k - suc j))) in
-      let o = one-used j f in
+      let o = use-one rows n j true (sym f) refl in
       omega arith
 
   -- ---- where a first use stands: behind those before it
-  one-yes : (k : ℕ) → isFirst rows n k ≡ true → useList rows n k ≡ nanosAt rows k ∷ []
-  unfolding useList
-  one-yes k e = rw e
-
   stands-first : (j : ℕ) → isFirst rows n j ≡ true → (s a b : ℕ) → s + a ≡ j → standsAt (usesList rows n s (a + suc b)) (nanosAt rows j) ≡ usesIn rows n s a
   unfolding usesList standsAt usesIn useList useCount
   stands-first j f s zero b e =
@@ -113,21 +105,21 @@ module _ (rows : List ℤ) (n : ℕ) where
       go true q h = rw (ne-eqb (nanosAt rows s) (nanosAt rows j) (λ (p : nanosAt rows s ≡ nanosAt rows j). let r = same-first rows n s j q f p in omega arith), h) (omega arith)
       go false q h = rw h (omega arith)
 
-  pub first-stands : (j m : ℕ) → isFirst rows n j ≡ true → j < m → standsAt (usesList rows n 0 m) (nanosAt rows j) ≡ usesIn rows n 0 j
+  first-stands : (j m : ℕ) → isFirst rows n j ≡ true → j < m → standsAt (usesList rows n 0 m) (nanosAt rows j) ≡ usesIn rows n 0 j
   first-stands j m f h = let e : j + suc (m - suc j) ≡ m = omega arith in rw e at (stands-first j f 0 j (m - suc j) (omega arith))
 
   -- and what stands there is what a first use lasts
-  pub record Stood (s m x : ℕ) : Type 0 where
-    pub row : ℕ
-    pub later : s ≤ row
-    pub within : row < s + m
-    pub first : isFirst rows n row ≡ true
-    pub lasts : nanosAt rows row ≡ x
+  record Stood (s m x : ℕ) : Type 0 where
+    row : ℕ
+    later : s ≤ row
+    within : row < s + m
+    first : isFirst rows n row ≡ true
+    lasts : nanosAt rows row ≡ x
 
   stood-later : {s m x : ℕ} → Stood (suc s) m x → Stood s (suc m) x
   stood-later t = let l = t .later in let w = t .within in record { row = t .row; later = omega arith; within = omega arith; first = t .first; lasts = t .lasts }
 
-  pub stood : (x s m : ℕ) → standsAt (usesList rows n s m) x < length (usesList rows n s m) → Stood s m x
+  stood : (x s m : ℕ) → standsAt (usesList rows n s m) x < length (usesList rows n s m) → Stood s m x
   unfolding usesList standsAt useList
   stood x s zero h = absurd (omega arith)
   stood x s (suc m) h = go (isFirst rows n s) refl (stood x (suc s) m) h
@@ -229,7 +221,7 @@ module _ (rows : List ℤ) (n : ℕ) where
         ∙ sym (ne-eqb (firstUse rows n k) k (λ (q : firstUse rows n k ≡ k). omega arith)))
         (eq-or-lt-of-le (used-most rows n k b))
 
-    pub new-first : k < n → isNew (usesList rows n 0 k) rows k ≡ isFirst rows n k
+    new-first : k < n → isNew (usesList rows n 0 k) rows k ≡ isFirst rows n k
     unfolding isNew isFirst
     new-first l = go (isBlock rows k) refl
       where
