@@ -10,3 +10,5 @@ pub mod Ranging
 pub mod ListedBack
 pub mod ShapeBack
 pub mod DefinedBack
+pub mod DefinedSection
+pub mod DefinedFound

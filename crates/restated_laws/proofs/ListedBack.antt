@@ -277,3 +277,8 @@ extensions-back st n rows count o small h {last} {end} {rs} x =
     (goes-then (extensions-head-back st n o)
     (goes-then (listed-lines-back (st .edition) rows small (set (st .seen) 8 true) (st .samples) x)
     (extensions-blank-back (listedAt (st .edition) (set (st .seen) 8 true) (st .samples) last) end last refl))))
+
+-- without rows it is not there
+pub no-extensions-back : (st : State) (n : ℕ) (target : Edition) (rows : List ℤ) (count : ℕ) → hasListed rows count ≡ false → Goes st n (extensionSection target rows count) [] [] st n
+unfolding extensionSection
+no-extensions-back st n target rows count h = rw h goes-none
