@@ -12,3 +12,4 @@ pub mod ShapeBack
 pub mod DefinedBack
 pub mod DefinedSection
 pub mod DefinedFound
+pub mod TextBack
