@@ -13,3 +13,4 @@ pub mod DefinedBack
 pub mod DefinedSection
 pub mod DefinedFound
 pub mod TextBack
+pub mod WholeBack

@@ -197,7 +197,7 @@ listed-at {target} rows count small {st} e o {n} (some-listed {rs} {last} {end} 
     subst (λ (v : Edition). Goes st n (extensionSection v rows count) rs [] (entered st 8 (Extensions last)) (suc end)) e
     (extensions-back st n rows count o small h (subst (λ (v : Edition). Listing v rows Entries (suc n) 0 count rs last end) (sym e) x))
 
-listed-open : {st : State} → Open st 9 → (b : Bool) (last : Listed) → Open (listedState b last st) 9
+pub listed-open : {st : State} → Open st 9 → (b : Bool) (last : Listed) → Open (listedState b last st) 9
 unfolding listedState
 listed-open o b last = open-behind o b 8 (λ e. omega arith) (Extensions last) (unfold mayLeave in refl)
 
@@ -280,7 +280,7 @@ module _ (target : Edition) (raster : ℕ) (file site : List ℕ) (rows : List �
     unfolding delaysState delaysEnd
     delays-here = delays-at rows count (r .few) (r .long) target ready8 (eventEnd target raster rows count blocksEnd)
 
-    open-delays : (j : ℕ) → 8 ≤ j → j ≤ 9 → Open delaysState j
+    pub open-delays : (j : ℕ) → 8 ≤ j → j ≤ 9 → Open delaysState j
     unfolding delaysState
     open-delays = delays-open rows count target ready8
 
