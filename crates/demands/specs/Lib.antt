@@ -1,4 +1,5 @@
--- What it means that a file keeps to the lent tables, the paper's limits and its own edition's rules, and what the tables then hold.
+-- What it means that a file keeps to the lent tables, the paper's limits and its own edition's rules, and what the tables then hold; what a file plays; and
+-- for what restating is refused.
 pub mod Answered
 pub mod Rules
 pub mod Keeping
