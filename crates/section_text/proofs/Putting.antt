@@ -26,7 +26,8 @@ use Rattle.durations.proofs.Firsts.{first-at, not-first}
 use Rattle.durations.proofs.Listing.{uses-after, stands-next}
 use Rattle.said.specs.Said.{lineText, rowsText, hasKind}
 use Rattle.said.proofs.Saying.{section-some, section-none, LinesPut, lines-start, lines-turn}
-use Rattle.section_text.specs.Sections.{headText, sectionText, wholeMicros, microsAt, delayRow, delayLine, newLine, hasDelays}
+use Rattle.section_text.specs.Sections.{headText, sectionText, wholeMicros, microsAt, delayRow, delayLine, hasDelays}
+use Rattle.section_text.specs.Inside.{newLine}
 
 -- ---- the section of a form
 module _ (target : Edition) (raster : ℕ) (form : Form) (rows : List ℤ) (n : ℕ) (b : Bool) (z : ℤ) (q : z ≡ pos (formNumber form)) (p : b ≡ hasKind z rows n) where

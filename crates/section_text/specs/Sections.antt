@@ -58,10 +58,6 @@ delayRow rows n k = pos (formNumber Delay) ∷ pos (min (delayNumber rows n k) l
 unfoldable pub delayLine : List ℤ → ℕ → ℕ → List ℕ
 delayLine rows n k = cond (isFirst rows n k) (lineText V13 Delay (delayRow rows n k)) []
 
--- the same by how many durations are used before row k and with it
-unfoldable pub newLine : ℕ → ℕ → List ℤ → ℕ → List ℕ
-newLine used next rows k = cond (ltb used next) (lineText V13 Delay (pos (formNumber Delay) ∷ pos (min next largest) ∷ pos (min (microsAt rows k) largest) ∷ [])) []
-
 abbrev pub delaysText : List ℤ → ℕ → List ℕ
 delaysText rows n = linesText (delayLine rows n) 0 n
 
