@@ -1,0 +1,1 @@
+-- Tables that hold the same rows in another order keep the same rules and play the same.
