@@ -366,13 +366,13 @@ module _ (e : Edition) (q : Rasters) (rows : List ℤ) (n : ℕ) (samples : List
       go false p = refl
 
 -- ---- OUTLASTS: the longest of some, and each of them
-longest-each : (lasts : ℕ → ℕ) (b c m : ℕ) → longestOf lasts c m ≤ b → (i : ℕ) → c ≤ i → i < c + m → lasts i ≤ b
+pub longest-each : (lasts : ℕ → ℕ) (b c m : ℕ) → longestOf lasts c m ≤ b → (i : ℕ) → c ≤ i → i < c + m → lasts i ≤ b
 unfolding longestOf
 longest-each lasts b c zero h i l u = absurd (omega arith)
 longest-each lasts b c (suc m) h i l u =
     ⊎-elim (λ (p : c ≡ i). rw (← p) (omega arith)) (λ (p : c < i). longest-each lasts b (suc c) m (omega arith) i p (omega arith)) (eq-or-lt-of-le l)
 
-each-longest : (lasts : ℕ → ℕ) (b c m : ℕ) → ((i : ℕ) → c ≤ i → i < c + m → lasts i ≤ b) → longestOf lasts c m ≤ b
+pub each-longest : (lasts : ℕ → ℕ) (b c m : ℕ) → ((i : ℕ) → c ≤ i → i < c + m → lasts i ≤ b) → longestOf lasts c m ≤ b
 unfolding longestOf
 each-longest lasts b c zero f = omega arith
 each-longest lasts b c (suc m) f =
