@@ -289,23 +289,33 @@ by-four P p q r s (suc (suc (suc (suc (suc (suc zero)))))) a b = r
 by-four P p q r s (suc (suc (suc (suc (suc (suc (suc zero))))))) a b = s
 by-four P p q r s (suc (suc (suc (suc (suc (suc (suc (suc c)))))))) a b = absurd (omega arith)
 
-module _ (q : Rasters) (rows : List ℤ) (k : ℕ) (held : RowHeld V14 rows k) (gradient : 1 ≤ q .gradient .0) (rf : 1 ≤ q .rf .0) (adc : 1 ≤ q .adc .0) where
+-- times of a row in range, whatever its edition
+module _ (rows : List ℤ) (k : ℕ) where
+  rf-most : (e : Edition) → RowHeld e rows k → numberAt rows k 0 ≡ pos 2 → natAbs (numberAt rows k 7) ≤ 10 ^ 9
+  unfolding columnsOf
+  rf-most V13 held p = number-most V13 Rf 6 rows k held p
+  rf-most V14 held p = number-most V14 Rf 6 rows k held p
+
+  gradient-most : (e : Edition) → RowHeld e rows k → numberAt rows k 0 ≡ pos 3 → natAbs (numberAt rows k 6) ≤ 10 ^ 9
+  unfolding columnsOf
+  gradient-most V13 held p = number-most V13 Gradient 5 rows k held p
+  gradient-most V14 held p = number-most V14 Gradient 5 rows k held p
+
+module _ (q : Rasters) (rows : List ℤ) (k : ℕ) (e : Edition) (held : RowHeld e rows k) (gradient : 1 ≤ q .gradient .0) (rf : 1 ≤ q .rf .0) (adc : 1 ≤ q .adc .0) where
   abbrev kindHere : ℤ
   kindHere = numberAt rows k 0
 
   rf-few : kindHere ≡ pos 2 → natAbs (numberAt rows k 7) ≤ 10 ^ 9
-  unfolding columnsOf
-  rf-few p = number-most V14 Rf 6 rows k held p
+  rf-few p = rf-most rows k e held p
 
   gradient-few : kindHere ≡ pos 3 → natAbs (numberAt rows k 6) ≤ 10 ^ 9
-  unfolding columnsOf
-  gradient-few p = number-most V14 Gradient 5 rows k held p
+  gradient-few p = gradient-most rows k e held p
 
   trap-few : kindHere ≡ pos 4 → (c : ℕ) → 4 ≤ c → c ≤ 7 → natAbs (numberAt rows k c) ≤ 10 ^ 9
   unfolding columnsOf
   trap-few p =
-      by-four (λ c. natAbs (numberAt rows k c) ≤ 10 ^ 9) (number-most V14 Trap 3 rows k held p) (number-most V14 Trap 4 rows k held p) (number-most V14 Trap 5 rows k held p)
-      (number-most V14 Trap 6 rows k held p)
+      by-four (λ c. natAbs (numberAt rows k c) ≤ 10 ^ 9) (number-most e Trap 3 rows k held p) (number-most e Trap 4 rows k held p) (number-most e Trap 5 rows k held p)
+      (number-most e Trap 6 rows k held p)
 
   traps-of : kindHere ≡ pos 4 → trapOff rows k (q .gradient .0) ≡ false → (c : ℕ) → 4 ≤ c → c ≤ 7 → Multiple (q .gradient .0) (microsAt rows k c)
   unfolding trapOff
@@ -325,7 +335,7 @@ module _ (q : Rasters) (rows : List ℤ) (k : ℕ) (held : RowHeld V14 rows k) (
       each : (c : ℕ) → 4 ≤ c → c ≤ 7 → microsOff rows k (q .gradient .0) c ≡ false
       each c a b = of-micros rows k c (q .gradient .0) (trap-few p c a b) gradient (m c a b)
 
-  aligned-of : misalignedAt q rows k ≡ false → Aligned q rows k
+  pub aligned-of : misalignedAt q rows k ≡ false → Aligned q rows k
   unfolding misalignedAt
   aligned-of e =
       record {
@@ -410,12 +420,12 @@ module _ (q : Rasters) (rows : List ℤ) (k : ℕ) (gradient : 1 ≤ q .gradient
   pub aligned-in : (e : Edition) → RowHeld e rows k → (e ≡ V14 → 1 ≤ q .adc .0) → alignBroken e q rows k ≡ false → e ≡ V14 → Aligned q rows k
   unfolding alignBroken
   aligned-in V13 held adc x v = absurd (editions-differ v)
-  aligned-in V14 held adc x v = aligned-of q rows k held gradient rf (adc v) x
+  aligned-in V14 held adc x v = aligned-of q rows k V14 held gradient rf (adc v) x
 
   pub of-aligned-in : (e : Edition) → RowHeld e rows k → (e ≡ V14 → 1 ≤ q .adc .0) → (e ≡ V14 → Aligned q rows k) → alignBroken e q rows k ≡ false
   unfolding alignBroken
   of-aligned-in V13 held adc a = refl
-  of-aligned-in V14 held adc a = of-aligned q rows k held gradient rf (adc refl) (a refl)
+  of-aligned-in V14 held adc a = of-aligned q rows k V14 held gradient rf (adc refl) (a refl)
 
 module _ (q : Rasters) (rows : List ℤ) (n : ℕ) (samples : List ℤ) (k : ℕ) (h : k < n) where
   pub lasting-in : (e : Edition) → TablesIn e q rows n samples → outlastsBroken e q rows n samples k ≡ false → e ≡ V14 → numberAt rows k 0 ≡ pos 1 → (c : ℕ) → 2 ≤ c → c ≤ 8
