@@ -1,0 +1,3 @@
+-- A file that was accepted can be restated, and its text read back.
+pub mod Labels
+pub mod Order
