@@ -1,16 +1,14 @@
 -- A row of a table that holds a row in range, by its kind: a row of a form has its columns' numbers, a shape its ID and its count. Assumes nothing.
 use Prim.Native.Nat.{ℕ, _≤_}
-use mathlib.Core.Bool.{Bool, true, false, _||_, true≢false}
+use mathlib.Core.Bool.{Bool, true, false, cond, _||_, true≢false}
 use mathlib.Core.List.{List, [], _∷_}
 use mathlib.Core.Path.{_≡_, refl, sym, ap, subst, _∙_}
 use native.Mathlib.Omega.{arith}
 use lib.Dec.{eqb}
-use mathlib.Core.Bool.{cond}
 use lib.IntN.{ℤ, pos, natAbs}
 use Rattle.numeral.specs.Integer.{largestId}
 use Rattle.shape.specs.declared.Edition.{Edition}
 use Rattle.columns.specs.Columns.{columnsOf, formNumber, extensionKind, labelKind, shapeKind, mostOf}
-use Rattle.columns.specs.Rows.{padded}
 use Rattle.columns.specs.Ranges.{InRange}
 use Rattle.columns.specs.declared.Form.{Form}
 use Rattle.columns.specs.declared.Form.the-variants.{Block, Rf, Gradient, Trap, Adc, Delay, Entry, Trigger}
@@ -18,7 +16,7 @@ use Rattle.columns.specs.declared.Kind.the-variants.{Count}
 use Rattle.columns.proofs.Widths.{row-fits}
 use Rattle.tables.specs.Tables.{numberAt}
 use Rattle.file_laws.specs.Ranges.{RowIn, by-columns, extension, label, shape}
-use Rattle.restated_source.proofs.Held.{RowHolds, RowIs, row-is}
+use Rattle.restated_source.proofs.Held.{RowHolds, RowIs, row-is, own-of}
 
 -- ---- A form by its number; extensions, labels and shapes have none
 abbrev formBy : ℕ → Form
@@ -95,8 +93,8 @@ module _ (e : Edition) (rows : List ℤ) (k : ℕ) where
       record {
         id = id;
         num = num;
-        is-id = w .own 0 (omega arith) (λ q. omega arith);
-        is-num = w .own 1 (omega arith) (λ q. omega arith);
+        is-id = own-of w (λ (q : 11 ≡ 1). omega arith) 0 (omega arith);
+        is-num = own-of w (λ (q : 11 ≡ 1). omega arith) 1 (omega arith);
         least = a;
         most = b;
         some = d;

@@ -3,7 +3,7 @@ use Prim.Native.Nat.{ℕ, suc, _≤_, _<_}
 use mathlib.Core.Bool.{true, false, _&&_, and-false, true≢false}
 use mathlib.Core.List.{List}
 use mathlib.Core.Logic.{⊎-elim}
-use mathlib.Core.Path.{_≡_, refl, sym, _∙_}
+use mathlib.Core.Path.{_≡_, sym, _∙_}
 use native.Mathlib.Omega.{arith}
 use borrow.Author.Tests.{ne-eqb}
 use lib.Dec.{eqb}
@@ -60,6 +60,10 @@ module _ (rows : List ℤ) (k kind : ℕ) where
       let first = kind-held rows k (padded kind vs) held ∙ kind-first kind vs few in
       record { kind-is = first; own = λ c (l : c < 11) other. held (suc c) (omega arith) (not-nanos first c other) ∙ own-number kind vs few c }
 
+-- all its numbers, where it is no block
+pub own-of : {rows : List ℤ} {k kind : ℕ} {vs : List ℤ} → RowIs rows k kind vs → (kind ≡ 1 → ⊥) → (c : ℕ) → c < 11 → numberAt rows k (suc c) ≡ getD vs c (pos 0)
+own-of w other c l = w .own c l (λ q i. other q)
+
 -- ---- A row by its columns, but a block, said by any target
 module _ (e target : Edition) (rows : List ℤ) (k : ℕ) (form : Form) (p : isPlain form ≡ true) (vs : List ℤ) (r : InRange (columnsOf e form) vs) (w : RowIs rows k (formNumber form) vs) where
   plain-other : (form : Form) → isPlain form ≡ true → formNumber form ≡ 1 → ⊥
@@ -76,7 +80,7 @@ module _ (e target : Edition) (rows : List ℤ) (k : ℕ) (form : Form) (p : isP
   no-block = not-block rows k (formNumber form) (w .kind-is) (plain-other form p)
 
   pub plain-said : (raster count : ℕ) → InRangeOf target form (saidRow target raster rows count k)
-  plain-said raster count = other-range e target raster rows count k form vs r p no-block (λ c l. w .own c l (λ q i. plain-other form p q))
+  plain-said raster count = other-range e target raster rows count k form vs r p no-block (own-of w (plain-other form p))
 
   pub plain-numbers : InRangeOf target form (numbersAt rows k)
   unfolding saidRow

@@ -4,3 +4,6 @@ pub mod Order
 pub mod Held
 pub mod Listing
 pub mod Forms
+pub mod Source
+pub mod Saying
+pub mod Readable

@@ -27,7 +27,7 @@ use Rattle.restated_laws.proofs.ListedBack.{Listing, list-end, list-other, list
 use Rattle.restated_laws.proofs.TextBack.{ListedFrom, none-listed, some-listed}
 use Rattle.restated_source.proofs.Labels.{value-before}
 use Rattle.restated_source.proofs.Order.{ReadAt, other-row, entry-row, extension-row, trigger-row, label-row, InOrder, no-rows, one-more, rows-ordered}
-use Rattle.restated_source.proofs.Held.{RowHolds, TableHolds, kind-held, is-kind, row-is, plain-numbers}
+use Rattle.restated_source.proofs.Held.{RowHolds, TableHolds, kind-held, is-kind, row-is, own-of, plain-numbers}
 
 -- ---- What a target can say of labels and extensions
 module _ (target : Edition) (rows : List ℤ) (count : ℕ) where
@@ -56,58 +56,36 @@ module _ (target : Edition) (rows : List ℤ) (count : ℕ) (can : CanSay target
     end : ℕ
     listing : Listing target rows listed n k m rs last end
 
+  lines : {listed last : Listed} {n k m end : ℕ} {rs : List Placed} → Listing target rows listed n k m rs last end → Lines listed n k m
+  lines x = record { rs = _; last = _; end = _; listing = x }
+
   one-row : {listed behind : Listed} {cells : List ℤ} → ReadAt listed cells behind → (n k m : ℕ) → k < count → RowHolds rows k cells → ((l : ℕ) → Lines behind l (suc k) m)
       → Lines listed n k (suc m)
   one-row {cells = cells} (other-row f) n k m h held rest =
-      let x = rest n in
       let other : (kind : ℕ) → 7 ≤ kind → kind ≤ 10 → isKind rows k (pos kind) ≡ false = λ kind a b. unfold isKind in rw (kind-held rows k cells held) (f kind a b) in
-      record {
-        rs = x .rs;
-        last = x .last;
-        end = x .end;
-        listing = list-other (other 7 (omega arith) (omega arith)) (other 8 (omega arith) (omega arith)) (other 9 (omega arith) (omega arith)) (other 10 (omega arith) (omega arith)) (x .listing);
-      }
+      lines (list-other (other 7 (omega arith) (omega arith)) (other 8 (omega arith) (omega arith)) (other 9 (omega arith) (omega arith)) (other 10 (omega arith) (omega arith)) (rest n .listing))
   one-row (entry-row vs r) n k m h held rest =
-      let x = rest (suc n) in
       let w = row-is rows k 7 vs (row-fits V14 Entry r) held in
-      record { rs = _; last = _; end = _; listing = list-entry (is-kind rows k 7 (w .kind-is) 7) (plain-numbers V14 target rows k Entry refl vs r w) (x .listing) }
+      lines (list-entry (is-kind rows k 7 (w .kind-is) 7) (plain-numbers V14 target rows k Entry refl vs r w) (rest (suc n) .listing))
   one-row (extension-row type code a b c) n k m h held rest =
-      let x = rest (suc n) in
       let w = row-is rows k 8 (pos type ∷ pos code ∷ []) (omega arith) held in
-      let two = w .own 1 (omega arith) (λ e. omega arith) in
-      record {
-        rs = _;
-        last = _;
-        end = _;
-        listing =
-            list-extension type code (is-kind rows k 8 (w .kind-is) 7) (is-kind rows k 8 (w .kind-is) 8) (w .own 0 (omega arith) (λ e. omega arith)) two a b
-            (code-some rows k code (w .kind-is) two (can .known k h)) c (x .listing);
-      }
+      let kind = is-kind rows k 8 (w .kind-is) in
+      let own = own-of w (λ (e : 8 ≡ 1). omega arith) in
+      let two = own 1 (omega arith) in
+      lines (list-extension type code (kind 7) (kind 8) (own 0 (omega arith)) two a b (code-some rows k code (w .kind-is) two (can .known k h)) c (rest (suc n) .listing))
   one-row (trigger-row vs r) n k m h held rest =
-      let x = rest (suc n) in
       let w = row-is rows k 9 vs (row-fits V14 Trigger r) held in
-      record {
-        rs = _;
-        last = _;
-        end = _;
-        listing =
-            list-trigger (is-kind rows k 9 (w .kind-is) 7) (is-kind rows k 9 (w .kind-is) 8) (is-kind rows k 9 (w .kind-is) 9)
-            (plain-numbers V14 target rows k Trigger refl vs r w) (x .listing);
-      }
+      let kind = is-kind rows k 9 (w .kind-is) in
+      lines (list-trigger (kind 7) (kind 8) (kind 9) (plain-numbers V14 target rows k Trigger refl vs r w) (rest (suc n) .listing))
   one-row (label-row increment id label v a b c d g value) n k m h held rest =
-      let x = rest (suc n) in
       let w = row-is rows k 10 (pos id ∷ pos (cond increment 1 0) ∷ v ∷ pos label ∷ []) (omega arith) held in
       let kind = is-kind rows k 10 (w .kind-is) in
-      let four = w .own 3 (omega arith) (λ e. omega arith) in
+      let own = own-of w (λ (e : 10 ≡ 1). omega arith) in
+      let four = own 3 (omega arith) in
       let other : target ≡ V13 → label ≡ 13 → ⊥ = λ e. not-once rows k label (w .kind-is) four (can .no-once e k h) in
-      record {
-        rs = _;
-        last = _;
-        end = _;
-        listing =
-            list-label increment id label v (kind 7) (kind 8) (kind 9) (kind 10) (w .own 0 (omega arith) (λ e. omega arith)) (w .own 2 (omega arith) (λ e. omega arith)) four a b c d g
-            (value-said target increment label (signedText v) other ∙ value) (x .listing);
-      }
+      lines
+      (list-label increment id label v (kind 7) (kind 8) (kind 9) (kind 10) (own 0 (omega arith)) (own 2 (omega arith)) four a b c d g
+      (value-said target increment label (signedText v) other ∙ value) (rest (suc n) .listing))
 
   all-rows : {listed : Listed} {rs : List Placed} → InOrder listed rs → (n k : ℕ) → k + length rs ≤ count → ((j : ℕ) → j < length rs → RowHolds rows (k + j) (cellsOf rs j))
       → Lines listed n k (length rs)
