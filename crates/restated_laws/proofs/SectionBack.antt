@@ -45,8 +45,9 @@ use Rattle.places.specs.declared.Place.the-variants.{Start, Version, Section, E
 use Rattle.places.specs.declared.State.{State}
 use Rattle.grammar.specs.Steps.{blankStep, plainStep, markedStep, stepOf}
 use Rattle.file.specs.Rows.{Placed}
+use Rattle.blocks.specs.Blocks.{isBlock}
 use Rattle.sayable.specs.Sayable.{nanosAt}
-use Rattle.durations.specs.Durations.{firstUse, isFirst, useCount, usesIn, delayNumber}
+use Rattle.durations.specs.Durations.{isAlike, firstUse, isFirst, useCount, usesIn, delayNumber}
 use Rattle.said.specs.Said.{saidRow, isOfForm, lineText, rowLine, linesText, hasKind, sectionOf}
 use Rattle.said.proofs.Short.{AllSmall, Small, said-small}
 use Rattle.section_text.specs.Sections.{versionText, headText, sectionText, wholeMicros, microsAt, delayRow, delayLine, hasDelays, delaySection}
@@ -239,7 +240,7 @@ uses-none rows n k (suc m) e j a b = go (isFirst rows n k) refl e (λ z l. uses-
     go false f z r (inl q) = rw (← q) f
     go false f z r (inr l) = r (omega arith) l
 
-uses-most : (rows : List ℤ) (n k m : ℕ) → usesIn rows n k m ≤ m
+pub uses-most : (rows : List ℤ) (n k m : ℕ) → usesIn rows n k m ≤ m
 unfolding usesIn useCount
 uses-most rows n k zero = omega arith
 uses-most rows n k (suc m) = go (isFirst rows n k) (uses-most rows n (suc k) m)
@@ -267,6 +268,13 @@ module _ (rows : List ℤ) (count k : ℕ) (h : k < count) (f : isFirst rows cou
       not-true true e = sym e
       not-true false e = refl
 
+  -- a first use is a block
+  first-block : isBlock rows k ≡ true
+  unfolding isFirst firstUse isAlike
+  first-block =
+      let same = eqb-true (firstUse rows count k) k (and-both (not (eqb (nanosAt rows k) 0)) (eqb (firstUse rows count k) k) f .1) in
+      and-both (isBlock rows k) (eqb (nanosAt rows k) (nanosAt rows k)) (rw same at (first-is (isAlike rows k) 0 count .here (omega arith))) .0
+
   delay-range : count ≤ largestId → nanosAt rows k ≤ 10 ^ 12 → (e : Edition) → InRangeOf e Delay (delayRow rows count k)
   unfolding columnsOf ownOf delayRow
   delay-range few long e =
@@ -275,7 +283,7 @@ module _ (rows : List ℤ) (count k : ℕ) (h : k < count) (f : isFirst rows cou
       let m = micros-most rows k in
       one-number {k = Id} {n = min (delayNumber rows count k) largest} refl (omega arith) (omega arith) (one-number {k = Micros} {n = min (microsAt rows k) largest} refl (omega arith) (omega arith) no-more)
 
-pub delays-back : (st : State) (n : ℕ) (rows : List ℤ) (count : ℕ) → st .edition ≡ V13 → Open st 10 → count ≤ largestId → ((k : ℕ) → k < count → nanosAt rows k ≤ 10 ^ 12)
+pub delays-back : (st : State) (n : ℕ) (rows : List ℤ) (count : ℕ) → st .edition ≡ V13 → Open st 10 → count ≤ largestId → ((k : ℕ) → k < count → isBlock rows k ≡ true → nanosAt rows k ≤ 10 ^ 12)
     → Goes st n (delaySection rows count) (givenRows (isFirst rows count) (λ k. backRow (st .edition) Delay (delayRow rows count k)) (suc n) 0 count) []
     (cond (hasDelays rows count) (inRows st Delay) st)
     (cond (hasDelays rows count) (suc (lineBehind (isFirst rows count) (suc n) 0 count)) n)
@@ -285,5 +293,5 @@ delays-back st n rows count v o few long =
     (λ e k h. let l = ltb-false 0 (usesIn rows count 0 count) e in uses-none rows count 0 count (omega arith) k (omega arith) (omega arith))
     (λ k. rw v)
     (delay-row-small rows count)
-    (λ k h e. delay-range rows count k h e few (long k h) (st .edition))
+    (λ k h e. delay-range rows count k h e few (long k h (first-block rows count k h e)) (st .edition))
     n

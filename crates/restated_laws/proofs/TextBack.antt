@@ -25,6 +25,7 @@ use Rattle.places.specs.declared.Place.{Place}
 use Rattle.places.specs.declared.Place.the-variants.{Section, Extensions}
 use Rattle.places.specs.declared.State.{State}
 use Rattle.file.specs.Rows.{Placed}
+use Rattle.blocks.specs.Blocks.{isBlock}
 use Rattle.sayable.specs.Sayable.{isKind, nanosAt}
 use Rattle.durations.specs.Durations.{isFirst}
 use Rattle.said.specs.Said.{saidRow, isOfForm, hasKind}
@@ -158,7 +159,7 @@ module _ (rows : List ℤ) (count : ℕ) where
   delayEnd V13 n = cond (hasDelays rows count) (suc (lineBehind (isFirst rows count) (suc n) 0 count)) n
   delayEnd V14 n = n
 
-  delays-at : count ≤ largestId → ((k : ℕ) → k < count → nanosAt rows k ≤ 10 ^ 12) → (target : Edition) {st : State} → Ready target st 8 → (n : ℕ)
+  delays-at : count ≤ largestId → ((k : ℕ) → k < count → isBlock rows k ≡ true → nanosAt rows k ≤ 10 ^ 12) → (target : Edition) {st : State} → Ready target st 8 → (n : ℕ)
       → Goes st n (delaysFor target rows count) (delayRows target n) [] (delayState target st) (delayEnd target n)
   unfolding delaysFor delayRows delayState delayEnd
   delays-at few long V13 {st} r n =
@@ -250,7 +251,7 @@ module _ (target : Edition) (raster : ℕ) (file site : List ℕ) (rows : List �
     pub traps : AllInRange target raster rows count Trap
     pub adc : AllInRange target raster rows count Adc
     pub few : count ≤ largestId
-    pub long : (k : ℕ) → k < count → nanosAt rows k ≤ 10 ^ 12
+    pub long : (k : ℕ) → k < count → isBlock rows k ≡ true → nanosAt rows k ≤ 10 ^ 12
     pub shapes : (k : ℕ) → k < count → isKind rows k (pos shapeKind) ≡ true → ShapeIn rows samples k
 
   module _ (r : Readable) where
