@@ -4,3 +4,4 @@ pub mod Lasting
 pub mod Blocks
 pub mod Following
 pub mod Playing
+pub mod Turning
