@@ -2,3 +2,5 @@
 pub mod Expanding
 pub mod Front
 pub mod Stored
+pub mod Naming
+pub mod Words
