@@ -4,3 +4,4 @@ pub mod Front
 pub mod Stored
 pub mod Naming
 pub mod Words
+pub mod Once
