@@ -11,6 +11,7 @@ use Rattle.text.specs.declared.Mark.{Mark}
 use Rattle.text.specs.declared.Mark.the-variants.{Blank, Comment, Section as SectionLine, Plain}
 use Rattle.text.specs.Blanks.{blankLen}
 use Rattle.text.specs.Words.{sameBytes, placeFrom}
+use Rattle.text.proofs.Lines.{OneLine}
 use Rattle.text.proofs.Words.{same-refl}
 use Rattle.fields.specs.Fields.{fieldsOf, bodyLen, trimmed}
 use Rattle.fields.proofs.Fields.{fields-word, fields-last}
@@ -75,7 +76,7 @@ module _ (word : List ℕ) (visible : allVisible word ≡ true) (some : 1 ≤ le
   pair-step st k m = plain-step st k pair pair-short pair-plain m
 
 -- the line with its end
-word-line : (word : List ℕ) (z : ℤ) → wordLine word z ≡ (word ++ (32 ∷ signedText z)) ++ (10 ∷ [])
+pub word-line : (word : List ℕ) (z : ℤ) → wordLine word z ≡ (word ++ (32 ∷ signedText z)) ++ (10 ∷ [])
 unfolding wordLine
 word-line word z = rw append-assoc
 
@@ -134,16 +135,25 @@ shape-id-back st n id p l m =
     ∙ ap (plainStep st n t) p
     ∙ id-step st n id t (pair-number shapeIdWord id-visible id-some id-few id m 1 largestId l m)))
 
+-- the line of a count, and what it gives
+abbrev pub countLine : ℕ → List ℕ
+countLine num = numSamplesWord ++ (32 ∷ signedText (pos num))
+
+module _ (num : ℕ) (l : 1 ≤ num) (h : num ≤ mostOf Count) where
+  pub count-one-line : OneLine (countLine num)
+  count-one-line = plain-line (countLine num) (pair-plain numSamplesWord count-visible count-some count-few num (omega arith))
+
+  pub shape-count-step : (st : State) (n m id : ℕ) → st .place ≡ Head (pos id) m → stepOf st n (countLine num) ≡ gaveOf (countedOf st num) m (shapeRow st id num)
+  shape-count-step st n m id p =
+      let s : num ≤ largestId = omega arith in
+      pair-step numSamplesWord count-visible count-some count-few num s st n (count-mark (32 ∷ signedText (pos num)))
+      ∙ ap (plainStep st n (countLine num)) p
+      ∙ count-step st n m id num (countLine num) (pair-number numSamplesWord count-visible count-some count-few num s 1 (mostOf Count) l h)
+
 pub shape-count-back : (st : State) (n m id num : ℕ) → st .place ≡ Head (pos id) m → 1 ≤ num → num ≤ mostOf Count
     → Goes st n (wordLine numSamplesWord (pos num)) (record { line = m; cells = shapeRow st id num } ∷ []) [] (countedOf st num) (suc n)
 shape-count-back st n m id num p l h =
-    let s : num ≤ largestId = omega arith in
-    let t = numSamplesWord ++ (32 ∷ signedText (pos num)) in
-    rw (word-line numSamplesWord (pos num))
-    (goes-row t (plain-line t (pair-plain numSamplesWord count-visible count-some count-few num s)) m (shapeRow st id num)
-    (pair-step numSamplesWord count-visible count-some count-few num s st n (count-mark (32 ∷ signedText (pos num)))
-    ∙ ap (plainStep st n t) p
-    ∙ count-step st n m id num t (pair-number numSamplesWord count-visible count-some count-few num s 1 (mostOf Count) l h)))
+    rw (word-line numSamplesWord (pos num)) (goes-row (countLine num) (count-one-line num l h) m (shapeRow st id num) (shape-count-step num l h st n m id p))
 
 -- both: a row with the shape's ID, its count and the place of its first sample, at the line of its ID
 pub shape-head-back : (st : State) (n id num : ℕ) → st .place ≡ Section Shapes → 1 ≤ id → id ≤ largestId → 1 ≤ num → num ≤ mostOf Count
@@ -195,7 +205,7 @@ values-back (a-line {l} {d} {ls} h q) st n p =
     rw z (rw (append-assoc l (10 ∷ []) (endedLines ls)) at (goes-then (goes-went l (visible-line l (h .visible)) (item-step st n l d (h .item) p)) (values-back q st (suc n) p)))
 
 -- ---- The stored lines of samples within the limits
-stored-hold : (edition : Edition) (zs : List ℤ) → allWithin zs ≡ true → length zs ≤ 1000000
+pub stored-hold : (edition : Edition) (zs : List ℤ) → allWithin zs ≡ true → length zs ≤ 1000000
     → HoldAll (storedLines edition zs) (cond (isPlainText edition (length (packedLines zs)) (length zs)) (map sampleOf zs) (runsValues (runsOf (differencesFrom (pos 0) zs))))
 unfolding storedLines packedLines
 stored-hold edition zs w few = go (isPlainText edition (length (packedLines zs)) (length zs))

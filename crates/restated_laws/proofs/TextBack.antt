@@ -1,7 +1,7 @@
 -- All of a restated text reads back, section by section, where each part does. Assumes nothing.
 use Prim.Native.Nat.{ℕ, suc, _+_, _^_, _≤_, _<_}
 use mathlib.Core.Bool.{Bool, true, false, cond}
-use mathlib.Core.List.{List, [], _++_, append-nil}
+use mathlib.Core.List.{List, [], _++_, append-assoc, append-nil}
 use mathlib.Core.Path.{_≡_, refl, sym, subst, _∙_}
 use native.Mathlib.Omega.{arith}
 use borrow.Author.Tests.{le-leb}
@@ -30,7 +30,7 @@ use Rattle.sayable.specs.Sayable.{isKind, nanosAt}
 use Rattle.durations.specs.Durations.{isFirst}
 use Rattle.said.specs.Said.{saidRow, isOfForm, hasKind}
 use Rattle.said.proofs.Short.{Small}
-use Rattle.section_text.specs.Sections.{sectionText, delayRow, hasDelays}
+use Rattle.section_text.specs.Sections.{versionText, sectionText, delayRow, hasDelays}
 use Rattle.extension_text.specs.Extensions.{hasListed, extensionSection}
 use Rattle.definition_text.specs.Definitions.{definitionSection}
 use Rattle.shape_section.specs.Shapes.{shapeSection}
@@ -241,6 +241,21 @@ module _ (target : Edition) (raster : ℕ) (file site : List ℕ) (rows : List �
       formRows target raster rows count Block (definitionsEnd target file site 6)
       ++ (eventRows target raster rows count blocksEnd ++ (delayRows rows count target (eventEnd target raster rows count blocksEnd) ++ more))
 
+  pub first-append : (rs more : List Placed) → firstRows (rs ++ more) ≡ firstRows rs ++ more
+  unfolding firstRows
+  first-append rs more = rw (append-assoc, append-assoc, append-assoc)
+
+  -- the text in front of SHAPES
+  abbrev pub frontText : List ℕ
+  frontText =
+      versionText target
+      ++ (definitionSection target file site
+      ++ (sectionText target raster Block rows count ++ (eventSections target raster rows count ++ (delaysFor target rows count ++ extensionSection target rows count))))
+
+  pub front-then : restatedText target raster file site rows count samples ≡ frontText ++ shapeSection target rows count samples
+  unfolding restatedText
+  front-then = rw (append-assoc, append-assoc, append-assoc, append-assoc, append-assoc)
+
   -- what is to be said can be said and read
   pub record Readable : Type 0 where
     pub small : Small rows
@@ -290,30 +305,26 @@ module _ (target : Edition) (raster : ℕ) (file site : List ℕ) (rows : List �
     of-target = delays-edition rows count target ready8
 
     module _ {rs : List Placed} {b : Bool} {last : Listed} {end : ℕ} (x : ListedFrom target rows count delaysEnd rs b last end) where
+      pub front-back : Goes fresh 1 frontText (firstRows rs) (numbered 7 (saidDefinitions target file site)) (listedState b last delaysState) end
+      unfolding firstRows
+      front-back =
+          rw (append-nil (numbered 7 (saidDefinitions target file site))) at
+          (goes-then (version-back target)
+          (goes-then (definitions-at target file site (version-ready target) (r .defined) 6)
+          (goes-then blocks-here
+          (goes-then (events-at target raster rows count (r .small) ready4 (r .rf) (r .gradients) (r .traps) (r .adc) blocksEnd)
+          (goes-then delays-here (listed-at rows count (r .small) of-target (open-delays 8 (omega arith) (omega arith)) x))))))
+
       -- where SHAPES begins
       abbrev inShapes : State
       inShapes = entered (listedState b last delaysState) 9 (Section Shapes)
-
-      sections-back : Goes (definitionsState target file site (versioned target)) (definitionsEnd target file site 6)
-          (sectionText target raster Block rows count
-          ++ (eventSections target raster rows count ++ (delaysFor target rows count ++ (extensionSection target rows count ++ shapeSection target rows count samples))))
-          (firstRows (rs ++ shapesGiven target rows samples inShapes (suc end) 0 count))
-          []
-          (cond (hasKind (pos shapeKind) rows count) (shapesState target rows samples inShapes 0 count) (listedState b last delaysState))
-          (cond (hasKind (pos shapeKind) rows count) (shapesLine target rows samples (suc end) 0 count) end)
-      unfolding firstRows
-      sections-back =
-          goes-then blocks-here
-          (goes-then (events-at target raster rows count (r .small) ready4 (r .rf) (r .gradients) (r .traps) (r .adc) blocksEnd)
-          (goes-then delays-here
-          (goes-then (listed-at rows count (r .small) of-target (open-delays 8 (omega arith) (omega arith)) x)
-          (shape-section-back target rows samples count (r .shapes) (listedState b last delaysState) end (listed-open (open-delays 9 (omega arith) (omega arith)) b last)))))
 
       pub text-back : Goes fresh 1 (restatedText target raster file site rows count samples) (firstRows (rs ++ shapesGiven target rows samples inShapes (suc end) 0 count))
           (numbered 7 (saidDefinitions target file site))
           (cond (hasKind (pos shapeKind) rows count) (shapesState target rows samples inShapes 0 count) (listedState b last delaysState))
           (cond (hasKind (pos shapeKind) rows count) (shapesLine target rows samples (suc end) 0 count) end)
-      unfolding restatedText
       text-back =
-          rw (append-nil (numbered 7 (saidDefinitions target file site))) at
-          (goes-then (version-back target) (goes-then (definitions-at target file site (version-ready target) (r .defined) 6) sections-back))
+          rw (front-then, first-append)
+          (rw (append-nil (numbered 7 (saidDefinitions target file site))) at
+          (goes-then front-back
+          (shape-section-back target rows samples count (r .shapes) (listedState b last delaysState) end (listed-open (open-delays 9 (omega arith) (omega arith)) b last))))
