@@ -61,7 +61,7 @@ module _ (file site : List ℕ) (room size : ℕ) (end : State) (verdict : verdi
   shape-fits : (k : ℕ) → k < n → isShapeRow rows k ≡ true → placeAt rows k + numAt rows k ≤ length (zeros size)
   shape-fits k h s = let x = shape-room file end (zeros room) verdict small fits k h s in let y = length-replicate size (pos 0) in omega arith
 
-  apart : Apart rows n
+  pub apart : Apart rows n
   apart = shapes-apart file end (zeros room) verdict small fits
 
   pub counted : end .samples ≡ sampleSum (rowsOf file)
@@ -72,7 +72,7 @@ module _ (file site : List ℕ) (room size : ℕ) (end : State) (verdict : verdi
   unfolding firstFailing
   shapes-of none k h = shape-of e file rows (length (zeros size)) k (shape-fits k h) (such-all (failsAt e file rows (length (zeros size))) n none k h)
 
-  of-shapes : ((k : ℕ) → k < n → isShapeRow rows k ≡ true → Expands e file rows k) → n ≤ firstFailing e file rows (length (zeros size)) n
+  pub of-shapes : ((k : ℕ) → k < n → isShapeRow rows k ≡ true → Expands e file rows k) → n ≤ firstFailing e file rows (length (zeros size)) n
   unfolding firstFailing
   of-shapes all = all-such (failsAt e file rows (length (zeros size))) n (λ k h. of-shape e file rows (length (zeros size)) k (shape-fits k h) (all k h))
 

@@ -4,4 +4,5 @@ pub mod Answered
 pub mod Rules
 pub mod Keeping
 pub mod Playing
+pub mod Replaying
 pub mod Refusing

@@ -2,3 +2,5 @@
 pub mod Rasters
 pub mod Ending
 pub mod Durations
+pub mod Tables
+pub mod Back
