@@ -1,0 +1,7 @@
+-- The rows of a restated text are the source's, arranged by section.
+pub mod Sectioned
+pub mod Own
+pub mod Source
+pub mod Retold
+pub mod Standing
+pub mod Sections
