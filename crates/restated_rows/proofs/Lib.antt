@@ -5,3 +5,5 @@ pub mod Source
 pub mod Retold
 pub mod Standing
 pub mod Sections
+pub mod Keys
+pub mod Whole

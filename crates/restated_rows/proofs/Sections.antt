@@ -50,7 +50,7 @@ pub FlaggedFrom : {target : Edition} {rows : List ℤ} {count n : ℕ} {rs : Lis
 FlaggedFrom (none-listed h) = Unit {0}
 FlaggedFrom (some-listed h x) = Flagged x
 
-kind-true : (rows : List ℤ) (k : ℕ) (kind : ℤ) → isKind rows k kind ≡ true → numberAt rows k 0 ≡ kind
+pub kind-true : (rows : List ℤ) (k : ℕ) (kind : ℤ) → isKind rows k kind ≡ true → numberAt rows k 0 ≡ kind
 unfolding isKind
 kind-true rows k kind i = sameZ-true (numberAt rows k 0) kind i
 
