@@ -7,3 +7,4 @@ pub mod Standing
 pub mod Sections
 pub mod Keys
 pub mod Whole
+pub mod Arranged
