@@ -1,6 +1,6 @@
 -- A table that holds the rows of a restated text holds the source's, each like the row that it stands for. Assumes nothing.
-use Prim.Native.Nat.{ℕ, suc, _≤_, _<_}
-use mathlib.Core.Bool.{Bool, true, false, not, true≢false}
+use Prim.Native.Nat.{ℕ, _≤_, _<_}
+use mathlib.Core.Bool.{Bool, true, false, true≢false}
 use mathlib.Core.List.{List}
 use mathlib.Core.Logic.{⊎-elim}
 use mathlib.Core.Path.{_≡_, refl, sym, ap, _∙_}
@@ -9,11 +9,10 @@ use lib.IntN.{ℤ, pos}
 use lib.ListN.{length, getD}
 use Rattle.text.proofs.Cases.{lt-or-ge}
 use Rattle.signed.specs.Signed.{sameZ}
-use Rattle.signed.proofs.Sign.{sameZ-true}
 use Rattle.shape.specs.declared.Edition.{Edition}
 use Rattle.shape.specs.declared.Edition.the-variants.{V13}
 use Rattle.columns.specs.Columns.{formNumber}
-use Rattle.columns.specs.declared.Form.the-variants.{Block, Delay}
+use Rattle.columns.specs.declared.Form.the-variants.{Delay}
 use Rattle.tables.specs.Tables.{numberAt}
 use Rattle.tables.proofs.Numbers.{number-beyond}
 use Rattle.blocks.specs.Blocks.{isBlock}
@@ -23,14 +22,14 @@ use Rattle.file.specs.Rows.{Placed}
 use Rattle.file_tables.specs.Tables.{cellsOf}
 use Rattle.demands.specs.Keeping.{HasBlock}
 use Rattle.sayable.specs.Sayable.{isKind, nanosAt}
-use Rattle.durations.specs.Durations.{firstUse, isFirst, usesIn, delayNumber}
+use Rattle.durations.specs.Durations.{firstUse, delayNumber}
 use Rattle.durations.proofs.Firsts.{first-alike, used-nanos, used-first, used-most}
 use Rattle.said.specs.Said.{durationNumber}
 use Rattle.section_text.specs.Sections.{microsAt}
 use Rattle.arranged.specs.Alike.{isAnew, Alike, Stands, isKept}
 use Rattle.restated_laws.proofs.SectionBack.{first-number}
 use Rattle.restated_laws.proofs.TextBack.{ListedFrom}
-use Rattle.restated_rows.proofs.Sectioned.{Among, Keyed, rising-at}
+use Rattle.restated_rows.proofs.Sectioned.{rising-at}
 use Rattle.restated_rows.proofs.Source.{Source, one-row}
 use Rattle.restated_rows.proofs.Standing.{KeptRow}
 use Rattle.restated_rows.proofs.Sections.{FlaggedFrom}

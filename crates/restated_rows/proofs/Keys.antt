@@ -1,8 +1,8 @@
 -- Each row of a restated text has a key, by its section and by the row of the source that it stands for; delay rows stand for first uses. Assumes nothing.
-use Prim.Native.Nat.{ℕ, suc, _+_, _*_, _/_, _^_, min, _≤_, _<_}
-use mathlib.Core.Bool.{Bool, true, false, _||_, true≢false}
+use Prim.Native.Nat.{ℕ, suc, _+_, _*_, _^_, min, _≤_, _<_}
+use mathlib.Core.Bool.{Bool, true, false, _||_}
 use mathlib.Core.List.{List, [], _∷_}
-use mathlib.Core.Path.{_≡_, refl, sym, ap, _∙_}
+use mathlib.Core.Path.{_≡_, refl, ap}
 use native.Mathlib.Omega.{arith}
 use lib.IntN.{ℤ, pos, natAbs}
 use lib.ListN.{length, getD}
@@ -10,14 +10,13 @@ use Rattle.signed.specs.Signed.{largest}
 use Rattle.numeral.specs.Integer.{largestId}
 use Rattle.shape.specs.declared.Edition.{Edition}
 use Rattle.shape.specs.declared.Edition.the-variants.{V13, V14}
-use Rattle.columns.specs.Columns.{columnsOf, formNumber, extensionKind, labelKind, shapeKind}
+use Rattle.columns.specs.Columns.{columnsOf, formNumber}
 use Rattle.columns.specs.Rows.{padded}
-use Rattle.columns.specs.declared.Form.{Form}
-use Rattle.columns.specs.declared.Form.the-variants.{Block, Rf, Gradient, Trap, Adc, Delay, Entry, Trigger}
+use Rattle.columns.specs.declared.Form.the-variants.{Delay}
 use Rattle.tables.specs.Tables.{numberAt}
 use Rattle.file.specs.Rows.{Placed}
 use Rattle.sayable.specs.Sayable.{isKind, nanosAt}
-use Rattle.durations.specs.Durations.{isFirst, usesIn, delayNumber}
+use Rattle.durations.specs.Durations.{isFirst, delayNumber}
 use Rattle.durations.proofs.Using.{uses-few}
 use Rattle.said.proofs.Short.{Small}
 use Rattle.section_text.specs.Sections.{microsAt, delayRow}
@@ -25,7 +24,6 @@ use Rattle.restated_laws.proofs.RowBack.{ownOf}
 use Rattle.restated_laws.proofs.SectionBack.{backRow, first-number, micros-most}
 use Rattle.restated_laws.proofs.TextBack.{delayRows}
 use Rattle.restated_rows.proofs.Sectioned.{Section, given-section, Rising, none-left, section-rising}
-use Rattle.restated_rows.proofs.Source.{padded-long}
 use Rattle.restated_rows.proofs.Standing.{KeptRow}
 use Rattle.restated_rows.proofs.Sections.{isListed, kind-true}
 

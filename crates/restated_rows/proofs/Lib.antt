@@ -8,3 +8,6 @@ pub mod Sections
 pub mod Keys
 pub mod Whole
 pub mod Arranged
+pub mod Once
+pub mod Order
+pub mod Text

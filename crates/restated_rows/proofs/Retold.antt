@@ -1,18 +1,18 @@
 -- Each row of a source as a target says it, read back: it is like the row that it was, and a block's duration is the target's. Assumes nothing.
-use Prim.Native.Nat.{ℕ, zero, suc, _+_, min, _≤_, _<_}
-use mathlib.Core.Bool.{Bool, true, false, cond, not, _&&_, _||_, true≢false}
-use mathlib.Core.List.{List, [], _∷_}
+use Prim.Native.Nat.{ℕ, suc, _+_, _<_}
+use mathlib.Core.Bool.{Bool, true, false, not, true≢false}
+use mathlib.Core.List.{List, _∷_}
 use mathlib.Core.Path.{_≡_, refl, sym, ap, _∙_}
 use native.Mathlib.Omega.{arith}
 use lib.Dec.{eqb}
-use lib.IntN.{ℤ, pos, natAbs}
-use lib.ListN.{length, getD, drop, set, List·getD-eq-default}
-use Rattle.signed.specs.Signed.{sameZ, largest}
+use lib.IntN.{ℤ, pos}
+use lib.ListN.{getD, drop}
+use Rattle.signed.specs.Signed.{sameZ}
 use Rattle.signed.proofs.Sign.{sameZ-refl, sameZ-true}
 use Rattle.text.proofs.Lines.{or-left, or-right}
 use Rattle.shape.specs.declared.Edition.{Edition}
 use Rattle.shape.specs.declared.Edition.the-variants.{V13, V14}
-use Rattle.columns.specs.Columns.{timeOf, columnsOf, formNumber, widthOf, shapeKind}
+use Rattle.columns.specs.Columns.{timeOf, columnsOf, formNumber, widthOf}
 use Rattle.columns.specs.Inside.{widthsOf}
 use Rattle.columns.specs.Rows.{padded}
 use Rattle.columns.specs.Ranges.{InRange, no-more, no-field, one-number, two-numbers}
@@ -24,13 +24,11 @@ use Rattle.columns.proofs.Widths.{whole-width, room-all}
 use Rattle.tables.specs.Tables.{numberAt}
 use Rattle.blocks.specs.Blocks.{isBlock}
 use Rattle.sayable.specs.Sayable.{isKind, hasNumber, hasTime}
-use Rattle.said.specs.Said.{numbersFrom, numbersAt, durationNumber, saidRow}
-use Rattle.arranged.specs.Alike.{isAnew, Alike}
+use Rattle.said.specs.Said.{numbersAt}
 use Rattle.restated_laws.proofs.RowBack.{ownOf}
 use Rattle.restated_laws.proofs.SectionBack.{backRow}
 use Rattle.restated_laws.proofs.Ranging.{own-whole, gone-of, front-of, own-agrees, behind-getD}
-use Rattle.restated_rows.proofs.Own.{ownWidth, Own}
-use Rattle.restated_rows.proofs.Source.{Source, padded-long, alike-of, numbers-alike, anew-other, not-block, own, own-is, kind-of, own-plain, source-numbers}
+use Rattle.restated_rows.proofs.Source.{Source, not-block, own, kind-of, own-plain}
 
 -- ---- Numbers in range by some columns are their own
 own-range : {ks : List Kind} {vs : List ℤ} → InRange ks vs → ownOf ks vs ≡ vs

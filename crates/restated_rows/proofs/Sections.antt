@@ -1,34 +1,30 @@
 -- The sections of a restated text hold the source's rows that belong to them, in their order. Assumes nothing.
-use Prim.Native.Nat.{ℕ, zero, suc, _+_, min, _≤_, _<_}
+use Prim.Native.Nat.{ℕ, zero, suc, _+_, _≤_, _<_}
 use mathlib.Core.Bool.{Bool, true, false, cond, _||_}
 use mathlib.Core.List.{List, [], _∷_}
-use mathlib.Core.Path.{_≡_, refl, sym, ap, _∙_}
+use mathlib.Core.Path.{_≡_, refl}
 use native.Mathlib.Omega.{arith}
 use lib.Dec.{eqb}
 use lib.IntN.{ℤ, pos, natAbs}
 use lib.ListN.{getD}
 use Rattle.text.proofs.Lines.{or-left, or-right}
-use Rattle.signed.specs.Signed.{sameZ, largest}
 use Rattle.signed.proofs.Sign.{sameZ-true}
 use Rattle.shape.specs.declared.Edition.{Edition}
-use Rattle.shape.specs.declared.Edition.the-variants.{V13, V14}
 use Rattle.columns.specs.Columns.{formNumber, extensionKind, labelKind, shapeKind}
 use Rattle.columns.specs.declared.Form.{Form}
-use Rattle.columns.specs.declared.Form.the-variants.{Block, Delay, Entry, Trigger}
+use Rattle.columns.specs.declared.Form.the-variants.{Block, Entry, Trigger}
 use Rattle.tables.specs.Tables.{numberAt}
 use Rattle.blocks.specs.Blocks.{isBlock}
 use Rattle.places.specs.declared.Listed.{Listed}
 use Rattle.places.specs.declared.State.{State}
 use Rattle.file.specs.Rows.{Placed}
 use Rattle.sayable.specs.Sayable.{isKind}
-use Rattle.durations.specs.Durations.{isFirst}
 use Rattle.said.specs.Said.{numbersAt, saidRow, isOfForm, hasKind}
-use Rattle.section_text.specs.Sections.{delayRow}
 use Rattle.extension_text.specs.Extensions.{hasListed}
 use Rattle.restated_laws.proofs.SectionBack.{backRow, such-none-of}
 use Rattle.restated_laws.proofs.ListedBack.{Listing, list-end, list-other, list-entry, list-extension, list-trigger, list-label}
 use Rattle.restated_laws.proofs.ShapeBack.{shapeRow, shapesGiven}
-use Rattle.restated_laws.proofs.TextBack.{formRows, delayRows, ListedFrom, none-listed, some-listed}
+use Rattle.restated_laws.proofs.TextBack.{formRows, ListedFrom, none-listed, some-listed}
 use Rattle.restated_rows.proofs.Sectioned.{Section, no-more, left-out, stands-here, given-section}
 use Rattle.restated_rows.proofs.Source.{Source, not-block, own-said}
 use Rattle.restated_rows.proofs.Standing.{KeptRow, kept-same, kept-plain, kept-shape, kept-block}

@@ -1,5 +1,5 @@
 -- The rows of a source that is read: a row of a text is like one of them where it says its numbers, but for those that are said anew. Assumes nothing.
-use Prim.Native.Nat.{ℕ, suc, _+_, _*_, _/_, _≤_, _<_}
+use Prim.Native.Nat.{ℕ, suc, _+_, _*_, _≤_, _<_}
 use mathlib.Core.Bool.{Bool, true, false, _&&_, true≢false}
 use mathlib.Core.List.{List, _∷_}
 use mathlib.Core.Logic.{⊎-elim}
@@ -14,9 +14,7 @@ use Rattle.signed.specs.Signed.{sameZ}
 use Rattle.numeral.specs.Integer.{largestId}
 use Rattle.shape.specs.declared.Edition.{Edition}
 use Rattle.shape.specs.declared.Edition.the-variants.{V13}
-use Rattle.columns.specs.Columns.{formNumber}
 use Rattle.columns.specs.Rows.{blank, padded}
-use Rattle.columns.specs.declared.Form.the-variants.{Block}
 use Rattle.tables.specs.Tables.{numberAt, NoneAgain}
 use Rattle.tables.proofs.Numbers.{number-beyond, number-there}
 use Rattle.blocks.specs.Blocks.{isBlock}

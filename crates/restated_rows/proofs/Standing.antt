@@ -1,6 +1,6 @@
 -- Rows of a restated text that stand for kept rows of the source, kind by kind. Assumes nothing.
-use Prim.Native.Nat.{ℕ, zero, suc, min, _≤_, _<_}
-use mathlib.Core.Bool.{Bool, true, false, cond, not, _&&_, _||_, true≢false}
+use Prim.Native.Nat.{ℕ, zero, suc, _≤_, _<_}
+use mathlib.Core.Bool.{Bool, true, false, _&&_, _||_, true≢false}
 use mathlib.Core.List.{List, [], _∷_}
 use mathlib.Core.Path.{_≡_, refl, sym, ap, _∙_}
 use native.Mathlib.Omega.{arith}
@@ -8,10 +8,10 @@ use borrow.Author.Tests.{ne-eqb}
 use lib.Dec.{eqb}
 use lib.IntN.{ℤ, pos, natAbs}
 use lib.ListN.{length, getD, set, List·getD-eq-default}
-use Rattle.signed.specs.Signed.{sameZ, largest}
+use Rattle.signed.specs.Signed.{sameZ}
 use Rattle.shape.specs.declared.Edition.{Edition}
 use Rattle.shape.specs.declared.Edition.the-variants.{V13, V14}
-use Rattle.columns.specs.Columns.{columnsOf, formNumber, extensionKind, labelKind, shapeKind}
+use Rattle.columns.specs.Columns.{columnsOf, formNumber, shapeKind}
 use Rattle.columns.specs.Rows.{padded}
 use Rattle.columns.specs.declared.Form.{Form}
 use Rattle.columns.specs.declared.Form.the-variants.{Block}
@@ -21,7 +21,6 @@ use Rattle.said.specs.Said.{numbersFrom, numbersAt, durationNumber, saidRow}
 use Rattle.arranged.specs.Alike.{isAnew, Alike, isKept}
 use Rattle.restated_laws.proofs.RowBack.{ownOf}
 use Rattle.restated_laws.proofs.SectionBack.{backRow}
-use Rattle.restated_rows.proofs.Own.{ownWidth, Own}
 use Rattle.restated_rows.proofs.Source.{Source, padded-long, alike-of, numbers-alike, anew-other, not-block, own, cells-long, own-is, kind-of, own-plain, source-numbers, own-said}
 use Rattle.restated_rows.proofs.Retold.{plain-said}
 

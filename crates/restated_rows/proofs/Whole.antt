@@ -1,11 +1,10 @@
 -- All rows of a restated text: their keys rise, and each kept row of the source is there. Assumes nothing.
 use Prim.Native.Nat.{ℕ, zero, suc, _+_, _*_, _≤_, _<_}
-use mathlib.Core.Bool.{Bool, true, false, not, true≢false}
+use mathlib.Core.Bool.{Bool, true, true≢false}
 use mathlib.Core.List.{List, _++_}
-use mathlib.Core.Path.{_≡_, refl, sym, ap, _∙_}
+use mathlib.Core.Path.{_≡_, refl, sym, _∙_}
 use native.Mathlib.Omega.{arith}
 use lib.IntN.{ℤ, pos}
-use lib.ListN.{length}
 use Rattle.signed.specs.Signed.{sameZ}
 use Rattle.signed.proofs.Sign.{sameZ-refl}
 use Rattle.shape.specs.declared.Edition.{Edition}
@@ -22,9 +21,8 @@ use Rattle.durations.specs.Durations.{isFirst}
 use Rattle.said.specs.Said.{isOfForm}
 use Rattle.arranged.specs.Alike.{isKept}
 use Rattle.restated_laws.proofs.ShapeBack.{shapesGiven}
-use Rattle.restated_laws.proofs.TextBack.{definitionsEnd, formRows, formEnd, eventRows, eventEnd, delayRows, blocksEnd, firstRows, ListedFrom}
+use Rattle.restated_laws.proofs.TextBack.{definitionsEnd, formRows, eventRows, eventEnd, delayRows, blocksEnd, firstRows, ListedFrom}
 use Rattle.restated_rows.proofs.Sectioned.{Among, among-left, among-right, Section, section-among, Rising, rising-then}
-use Rattle.restated_rows.proofs.Own.{Own}
 use Rattle.restated_rows.proofs.Source.{Source, own, kind-is}
 use Rattle.restated_rows.proofs.Standing.{KeptRow}
 use Rattle.restated_rows.proofs.Sections.{isListed, FlaggedFrom, block-section, form-section, listed-section, shapes-section}
@@ -48,7 +46,7 @@ module _ {e target : Edition} (raster : ℕ) (file site : List ℕ) {rows : List
   abbrev shapes : List Placed
   shapes = shapesGiven target rows samples st n 0 count
 
-  abbrev rest : List Placed
+  abbrev pub rest : List Placed
   rest = events ++ (delays ++ (rs ++ shapes))
 
   abbrev pub out : List Placed

@@ -1,0 +1,29 @@
+-- The rows that reading finds in a restated text are those that are arranged here. Assumes nothing.
+use Prim.Native.Nat.{ℕ, suc}
+use mathlib.Core.Bool.{Bool}
+use mathlib.Core.List.{List}
+use mathlib.Core.Path.{_≡_}
+use lib.IntN.{ℤ}
+use Rattle.shape.specs.declared.Edition.{Edition}
+use Rattle.places.specs.declared.Lines.the-variants.{Shapes}
+use Rattle.places.specs.declared.Listed.{Listed}
+use Rattle.places.specs.declared.Place.the-variants.{Section}
+use Rattle.places.specs.declared.State.{State}
+use Rattle.sections.specs.Entering.{entered}
+use Rattle.file.specs.Rows.{Placed, rowsOf}
+use Rattle.restated.specs.Text.{restatedText}
+use Rattle.restated_laws.proofs.TextBack.{Readable, ListedFrom, listedState, delaysState, delaysEnd}
+use Rattle.restated_laws.proofs.WholeBack.{restated-rows}
+use Rattle.restated_rows.proofs.Source.{Source}
+use Rattle.restated_rows.proofs.Sections.{FlaggedFrom}
+use Rattle.restated_rows.proofs.Whole.{out}
+
+module _ (target : Edition) (raster : ℕ) (file site : List ℕ) (rows : List ℤ) (count : ℕ) (samples : List ℤ) (r : Readable target raster file site rows count samples) {rs : List Placed} {some : Bool}
+    {last : Listed} {end : ℕ} (x : ListedFrom target rows count (delaysEnd target raster file site rows count samples) rs some last end) where
+  -- where SHAPES begins
+  abbrev pub inShapes : State
+  inShapes = entered (listedState some last (delaysState target raster file site rows count samples)) 9 (Section Shapes)
+
+  pub restated-out : {e : Edition} {cells : ℕ → List ℤ} (s : Source e target rows count cells) (f : FlaggedFrom x)
+      → rowsOf (restatedText target raster file site rows count samples) ≡ out raster file site samples s x f inShapes (suc end)
+  restated-out s f = restated-rows target raster file site rows count samples r x
