@@ -1,6 +1,6 @@
 -- A table that holds the rows of a restated text holds the source's, each like the row that it stands for. Assumes nothing.
 use Prim.Native.Nat.{ℕ, _≤_, _<_}
-use mathlib.Core.Bool.{Bool, true, false, true≢false}
+use mathlib.Core.Bool.{true, false, true≢false}
 use mathlib.Core.List.{List}
 use mathlib.Core.Logic.{⊎-elim}
 use mathlib.Core.Path.{_≡_, refl, sym, ap, _∙_}
@@ -16,7 +16,6 @@ use Rattle.columns.specs.declared.Form.the-variants.{Delay}
 use Rattle.tables.specs.Tables.{numberAt}
 use Rattle.tables.proofs.Numbers.{number-beyond}
 use Rattle.blocks.specs.Blocks.{isBlock}
-use Rattle.places.specs.declared.Listed.{Listed}
 use Rattle.places.specs.declared.State.{State}
 use Rattle.file.specs.Rows.{Placed}
 use Rattle.file_tables.specs.Tables.{cellsOf}
@@ -28,13 +27,11 @@ use Rattle.said.specs.Said.{durationNumber}
 use Rattle.section_text.specs.Sections.{microsAt}
 use Rattle.arranged.specs.Alike.{isAnew, Alike, Stands, isKept}
 use Rattle.restated_laws.proofs.SectionBack.{first-number}
-use Rattle.restated_laws.proofs.TextBack.{ListedFrom}
 use Rattle.restated_rows.proofs.Sectioned.{rising-at}
-use Rattle.restated_rows.proofs.Source.{Source, one-row}
+use Rattle.restated_rows.proofs.Source.{one-row}
 use Rattle.restated_rows.proofs.Standing.{KeptRow}
-use Rattle.restated_rows.proofs.Sections.{FlaggedFrom}
 use Rattle.restated_rows.proofs.Keys.{DelayRow, Standing, kept, delay}
-use Rattle.restated_rows.proofs.Whole.{out, out-rising, block-among, kept-among, delay-among}
+use Rattle.restated_rows.proofs.Whole.{Restating, out, out-rising, block-among, kept-among, delay-among}
 
 -- ---- Rows that are alike are so the other way round
 same-kind : {a b : List ℤ} {k j : ℕ} → Alike a k b j → numberAt a k 0 ≡ numberAt b j 0
@@ -87,34 +84,33 @@ pub record DelayStands (rows : List ℤ) (count k : ℕ) (b : List ℤ) (m : ℕ
   pub lasts : numberAt b r 2 ≡ pos (microsAt rows k)
   pub least : 1 ≤ delayNumber rows count k
 
-module _ {e target : Edition} (raster : ℕ) (file site : List ℕ) {rows : List ℤ} {count : ℕ} (samples : List ℤ) {cells : ℕ → List ℤ} (s : Source e target rows count cells)
-    {from end : ℕ} {rs : List Placed} {some : Bool} {last : Listed} (x : ListedFrom target rows count from rs some last end) (f : FlaggedFrom x) (st : State) (n : ℕ) where
+module _ {target : Edition} {raster : ℕ} {rows : List ℤ} {count : ℕ} {rs : List Placed} (g : Restating target raster rows count rs) (file site : List ℕ) (samples : List ℤ) (st : State) (n : ℕ) where
   abbrev text : List Placed
-  text = out raster file site samples s x f st n
+  text = out target raster file site rows count samples rs st n
 
   abbrev m : ℕ
   m = length text
 
   pub has-block : (k : ℕ) → k < count → isBlock rows k ≡ true → HasBlock text
   has-block k h i =
-      let a = block-among raster file site samples s x f st n k h (unfold isKind in i) in
+      let a = block-among g file site samples st n k h (unfold isKind in i) in
       record { k = a .at; there = a .there; block = ap (λ (z : ℤ). sameZ z (pos 1)) (sym (same-kind (a .is .alike))) ∙ i }
 
   module _ (b : List ℤ) (laid : (j c : ℕ) → j < m → c < 12 → numberAt b j c ≡ getD (cellsOf text j) c (pos 0)) where
     pub stands-forth : (k : ℕ) → k < count → isKept rows k ≡ true → Stands rows k b m
     stands-forth k h i =
-        let a = kept-among raster file site samples s x f st n k h i in
+        let a = kept-among g file site samples st n k h i in
         record { j = a .at; there = a .there; alike = kept-alike (a .is) b (a .at) (λ c l. laid (a .at) c (a .there) l) }
 
     pub stands-back : (j : ℕ) → j < m → isKept b j ≡ true → Stands b j rows count
-    stands-back j l i = go (rising-at (out-rising raster file site samples s x f st n) j l .is)
+    stands-back j l i = go (rising-at (out-rising g file site samples st n) j l .is)
       where
         go : {key : ℕ} → Standing target raster rows count (cellsOf text j) key → Stands b j rows count
         go (kept k g) = record { j = k; there = g .there; alike = alike-back (kept-alike g b j (λ c u. laid j c l u)) }
         go (delay k g) = absurd (true≢false (sym i ∙ delay-not-kept g b j (λ c u. laid j c l u)))
 
     pub block-numbers : (j : ℕ) → j < m → isBlock b j ≡ true → BlockFrom target raster rows count b j
-    block-numbers j l i = go (rising-at (out-rising raster file site samples s x f st n) j l .is)
+    block-numbers j l i = go (rising-at (out-rising g file site samples st n) j l .is)
       where
         go : {key : ℕ} → Standing target raster rows count (cellsOf text j) key → BlockFrom target raster rows count b j
         go (kept k g) =
@@ -131,7 +127,7 @@ module _ {e target : Edition} (raster : ℕ) (file site : List ℕ) {rows : List
         let there : u < count = omega arith in
         let first = used-first rows count k there z in
         let ns = used-nanos rows count k there in
-        let a = delay-among raster file site samples s x f st n u there v first in
+        let a = delay-among g file site samples st n u there v first in
         let d = first-number rows count u there first in
         let same = same-number u k ns (first-alike rows count u k ns) in
         record {

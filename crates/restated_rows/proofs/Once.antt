@@ -9,7 +9,6 @@ use Rattle.signed.specs.Signed.{sameZ}
 use Rattle.signed.proofs.Sign.{sameZ-true}
 use Rattle.shape.specs.declared.Edition.{Edition}
 use Rattle.tables.specs.Tables.{numberAt, classOf, classAt, firstRow, NoneAgain}
-use Rattle.places.specs.declared.Listed.{Listed}
 use Rattle.places.specs.declared.State.{State}
 use Rattle.file.specs.Rows.{Placed}
 use Rattle.repeats.specs.Once.{RowTwice}
@@ -18,13 +17,11 @@ use Rattle.durations.proofs.Using.{use-one}
 use Rattle.durations.proofs.Listing.{uses-after, uses-more}
 use Rattle.arranged.specs.Alike.{isAnew, Alike, isKept}
 use Rattle.restated_laws.proofs.SectionBack.{first-number}
-use Rattle.restated_laws.proofs.TextBack.{ListedFrom}
 use Rattle.restated_rows.proofs.Sectioned.{rising-two}
-use Rattle.restated_rows.proofs.Source.{Source, one-row}
+use Rattle.restated_rows.proofs.Source.{one-row}
 use Rattle.restated_rows.proofs.Standing.{KeptRow}
-use Rattle.restated_rows.proofs.Sections.{FlaggedFrom}
 use Rattle.restated_rows.proofs.Keys.{DelayRow, Standing, kept, delay}
-use Rattle.restated_rows.proofs.Whole.{out, out-rising}
+use Rattle.restated_rows.proofs.Whole.{Restating, out, out-rising}
 
 -- ---- Rows that are alike are of one class
 pub alike-class : {a b : List ℤ} {k j : ℕ} → Alike a k b j → classAt a k ≡ classAt b j
@@ -93,15 +90,14 @@ not-less : (n : ℕ) → n < n → ⊥
 not-less n l = omega arith
 
 -- ---- All rows
-module _ {e target : Edition} (raster : ℕ) (file site : List ℕ) {rows : List ℤ} {count : ℕ} (samples : List ℤ) {cells : ℕ → List ℤ} (s : Source e target rows count cells)
-    {from end : ℕ} {rs : List Placed} {some : Bool} {last : Listed} (x : ListedFrom target rows count from rs some last end) (f : FlaggedFrom x) (st : State) (n : ℕ) where
+module _ {target : Edition} {raster : ℕ} {rows : List ℤ} {count : ℕ} {rs : List Placed} (g : Restating target raster rows count rs) (file site : List ℕ) (samples : List ℤ) (st : State) (n : ℕ) where
   two-apart : {x y : List ℤ} {a c : ℕ} → Standing target raster rows count x a → Standing target raster rows count y c → a < c → classAt y 0 ≡ classAt x 0 → numberAt y 0 1 ≡ numberAt x 0 1 → ⊥
-  two-apart (kept k p) (kept l q) h c i = let z = same-kept (s .once) p q c i in not-less _ (rw z at h)
+  two-apart (kept k p) (kept l q) h c i = let z = same-kept (g .source .once) p q c i in not-less _ (rw z at h)
   two-apart (kept k p) (delay l q) h c i = not-delay p (sym c ∙ delay-at q)
   two-apart (delay k p) (kept l q) h c i = not-delay q (c ∙ delay-at p)
   two-apart (delay k p) (delay l q) h c i = delays-apart p q (omega arith) i
 
-  pub no-row-twice : (line : ℕ) → RowTwice (out raster file site samples s x f st n) line → ⊥
+  pub no-row-twice : (line : ℕ) → RowTwice (out target raster file site rows count samples rs st n) line → ⊥
   no-row-twice line t =
-      let w = rising-two (out-rising raster file site samples s x f st n) (t .i) (t .j) (t .before) (t .there) in
+      let w = rising-two (out-rising g file site samples st n) (t .i) (t .j) (t .before) (t .there) in
       two-apart (w .is) (w .behind .is) (w .behind .least) (t .class) (t .id)

@@ -11,21 +11,19 @@ use Rattle.shape.specs.declared.Edition.{Edition}
 use Rattle.columns.specs.declared.Form.the-variants.{Block}
 use Rattle.tables.specs.Tables.{numberAt}
 use Rattle.blocks.specs.Blocks.{isBlock}
-use Rattle.places.specs.declared.Listed.{Listed}
 use Rattle.places.specs.declared.State.{State}
 use Rattle.file.specs.Rows.{Placed}
 use Rattle.file_tables.specs.Tables.{cellsOf}
 use Rattle.sayable.specs.Sayable.{isKind}
 use Rattle.said.specs.Said.{isOfForm}
 use Rattle.arranged.specs.Alike.{InOrder, no-more, a-block, not-here, not-there}
-use Rattle.restated_laws.proofs.TextBack.{definitionsEnd, formRows, firstRows, ListedFrom}
+use Rattle.restated_laws.proofs.TextBack.{definitionsEnd, formRows, firstRows}
 use Rattle.restated_rows.proofs.Sectioned.{Section, left-out, stands-here, Rising, none-left, next-key}
 use Rattle.restated_rows.proofs.Sectioned as sectioned
-use Rattle.restated_rows.proofs.Source.{Source}
 use Rattle.restated_rows.proofs.Standing.{KeptRow}
-use Rattle.restated_rows.proofs.Sections.{FlaggedFrom, block-section}
+use Rattle.restated_rows.proofs.Sections.{block-section}
 use Rattle.restated_rows.proofs.Keys.{partOf, Standing, kept, delay}
-use Rattle.restated_rows.proofs.Whole.{out, rest, rest-rising}
+use Rattle.restated_rows.proofs.Whole.{Restating, out, rest, rest-rising}
 use Rattle.restated_rows.proofs.Arranged.{Holds, kept-alike, kept-block, delay-not-block}
 
 -- ---- Rows that a table holds from row j on
@@ -85,16 +83,15 @@ module _ (target : Edition) (raster : ℕ) (rows : List ℤ) (count : ℕ) (b : 
       rw w (a-block e (kept-alike g b j (laid-first laid)) (blocks-order t (suc j) y (length rs + y) refl (laid-later laid) (rw (u, v) at o)))
 
 -- ---- All rows
-module _ {e target : Edition} (raster : ℕ) (file site : List ℕ) {rows : List ℤ} {count : ℕ} (samples : List ℤ) {cells : ℕ → List ℤ} (s : Source e target rows count cells)
-    {from end : ℕ} {rs : List Placed} {some : Bool} {last : Listed} (x : ListedFrom target rows count from rs some last end) (f : FlaggedFrom x) (st : State) (n : ℕ) where
+module _ {target : Edition} {raster : ℕ} {rows : List ℤ} {count : ℕ} {rs : List Placed} (g : Restating target raster rows count rs) (file site : List ℕ) (samples : List ℤ) (st : State) (n : ℕ) where
   abbrev text : List Placed
-  text = out raster file site samples s x f st n
+  text = out target raster file site rows count samples rs st n
 
   pub in-order : (b : List ℤ) → ((j c : ℕ) → j < length text → c < 12 → numberAt b j c ≡ getD (cellsOf text j) c (pos 0)) → InOrder rows b 0 count 0 (length text)
   unfolding firstRows
   in-order b laid =
       let ps = formRows target raster rows count Block (definitionsEnd target file site 6) in
-      let qs = rest raster file site samples s x f st n in
+      let qs = rest g file site samples st n in
       let all : LaidFrom b 0 (ps ++ qs) = record { holds = λ i h c l. let z : 0 + i ≡ i = omega arith in rw z (laid i c h l) } in
-      blocks-order target raster rows count b (block-section raster s (definitionsEnd target file site 6)) 0 (length qs) (length (ps ++ qs)) (length-append ps qs) (laid-left ps qs all)
-      (rest-order target raster rows count b (rest-rising raster file site samples s x f st n) (omega arith) (0 + count) (0 + length ps) (laid-right ps qs all))
+      blocks-order target raster rows count b (block-section raster (g .source) (definitionsEnd target file site 6)) 0 (length qs) (length (ps ++ qs)) (length-append ps qs) (laid-left ps qs all)
+      (rest-order target raster rows count b (rest-rising g file site samples st n) (omega arith) (0 + count) (0 + length ps) (laid-right ps qs all))

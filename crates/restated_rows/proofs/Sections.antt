@@ -33,8 +33,8 @@ use Rattle.restated_rows.proofs.Standing.{KeptRow, kept-same, kept-plai
 unfoldable pub isListed : List ℤ → ℕ → Bool
 isListed rows k = isKind rows k (pos (formNumber Entry)) || (isKind rows k (pos extensionKind) || (isKind rows k (pos (formNumber Trigger)) || isKind rows k (pos labelKind)))
 
--- each label row says whether it is read behind increments
-pub Flagged : {e : Edition} {rows : List ℤ} {listed last : Listed} {n k m end : ℕ} {rs : List Placed} → Listing e rows listed n k m rs last end → Type 0
+-- each label row says where it is read: 1 among increments, 0 elsewhere
+unfoldable pub Flagged : {e : Edition} {rows : List ℤ} {listed last : Listed} {n k m end : ℕ} {rs : List Placed} → Listing e rows listed n k m rs last end → Type 0
 Flagged list-end = Unit {0}
 Flagged (list-other a b c d x) = Flagged x
 Flagged (list-entry a r x) = Flagged x
@@ -42,7 +42,7 @@ Flagged (list-extension type code a b t c l m o h x) = Flagged x
 Flagged (list-trigger a b c r x) = Flagged x
 Flagged {rows = rows} (list-label {k = k} increment id label v a b c d i w j l m g o h value x) = (numberAt rows k 2 ≡ pos (cond increment 1 0)) × Flagged x
 
-pub FlaggedFrom : {target : Edition} {rows : List ℤ} {count n : ℕ} {rs : List Placed} {some : Bool} {last : Listed} {end : ℕ} → ListedFrom target rows count n rs some last end → Type 0
+unfoldable pub FlaggedFrom : {target : Edition} {rows : List ℤ} {count n : ℕ} {rs : List Placed} {some : Bool} {last : Listed} {end : ℕ} → ListedFrom target rows count n rs some last end → Type 0
 FlaggedFrom (none-listed h) = Unit {0}
 FlaggedFrom (some-listed h x) = Flagged x
 

@@ -15,8 +15,8 @@ use Rattle.restated.specs.Text.{restatedText}
 use Rattle.restated_laws.proofs.TextBack.{Readable, ListedFrom, listedState, delaysState, delaysEnd}
 use Rattle.restated_laws.proofs.WholeBack.{restated-rows}
 use Rattle.restated_rows.proofs.Source.{Source}
-use Rattle.restated_rows.proofs.Sections.{FlaggedFrom}
-use Rattle.restated_rows.proofs.Whole.{out}
+use Rattle.restated_rows.proofs.Sections.{FlaggedFrom, listed-section}
+use Rattle.restated_rows.proofs.Whole.{Restating, out}
 
 module _ (target : Edition) (raster : ℕ) (file site : List ℕ) (rows : List ℤ) (count : ℕ) (samples : List ℤ) (r : Readable target raster file site rows count samples) {rs : List Placed} {some : Bool}
     {last : Listed} {end : ℕ} (x : ListedFrom target rows count (delaysEnd target raster file site rows count samples) rs some last end) where
@@ -24,6 +24,9 @@ module _ (target : Edition) (raster : ℕ) (file site : List ℕ) (rows : List �
   abbrev pub inShapes : State
   inShapes = entered (listedState some last (delaysState target raster file site rows count samples)) 9 (Section Shapes)
 
-  pub restated-out : {e : Edition} {cells : ℕ → List ℤ} (s : Source e target rows count cells) (f : FlaggedFrom x)
-      → rowsOf (restatedText target raster file site rows count samples) ≡ out raster file site samples s x f inShapes (suc end)
-  restated-out s f = restated-rows target raster file site rows count samples r x
+  pub restated-out : rowsOf (restatedText target raster file site rows count samples) ≡ out target raster file site rows count samples rs inShapes (suc end)
+  restated-out = restated-rows target raster file site rows count samples r x
+
+  -- what is restated, of a source whose label rows say whether they increment
+  pub restating : {e : Edition} {cells : ℕ → List ℤ} → Source e target rows count cells → FlaggedFrom x → Restating target raster rows count rs
+  restating {e} {cells} s f = record { e = e; cells = cells; source = s; listed = listed-section raster s x f }

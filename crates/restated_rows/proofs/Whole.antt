@@ -13,7 +13,6 @@ use Rattle.columns.specs.Columns.{formNumber, shapeKind}
 use Rattle.columns.specs.declared.Form.{Form}
 use Rattle.columns.specs.declared.Form.the-variants.{Block, Rf, Gradient, Trap, Adc}
 use Rattle.tables.specs.Tables.{numberAt}
-use Rattle.places.specs.declared.Listed.{Listed}
 use Rattle.places.specs.declared.State.{State}
 use Rattle.file.specs.Rows.{Placed}
 use Rattle.sayable.specs.Sayable.{isKind}
@@ -21,15 +20,24 @@ use Rattle.durations.specs.Durations.{isFirst}
 use Rattle.said.specs.Said.{isOfForm}
 use Rattle.arranged.specs.Alike.{isKept}
 use Rattle.restated_laws.proofs.ShapeBack.{shapesGiven}
-use Rattle.restated_laws.proofs.TextBack.{definitionsEnd, formRows, eventRows, eventEnd, delayRows, blocksEnd, firstRows, ListedFrom}
+use Rattle.restated_laws.proofs.TextBack.{definitionsEnd, formRows, eventRows, eventEnd, delayRows, blocksEnd, firstRows}
 use Rattle.restated_rows.proofs.Sectioned.{Among, among-left, among-right, Section, section-among, Rising, rising-then}
 use Rattle.restated_rows.proofs.Source.{Source, own, kind-is}
 use Rattle.restated_rows.proofs.Standing.{KeptRow}
-use Rattle.restated_rows.proofs.Sections.{isListed, FlaggedFrom, block-section, form-section, listed-section, shapes-section}
+use Rattle.restated_rows.proofs.Sections.{isListed, block-section, form-section, shapes-section}
 use Rattle.restated_rows.proofs.Keys.{DelayRow, delay-section, partOf, kind-part, listed-part, Standing, kept-rising, delays-rising}
 
-module _ {e target : Edition} (raster : ℕ) (file site : List ℕ) {rows : List ℤ} {count : ℕ} (samples : List ℤ) {cells : ℕ → List ℤ} (s : Source e target rows count cells)
-    {from end : ℕ} {rs : List Placed} {some : Bool} {last : Listed} (x : ListedFrom target rows count from rs some last end) (f : FlaggedFrom x) (st : State) (n : ℕ) where
+-- ---- What is restated, and the rows of its text: those of EXTENSIONS are given, shapes begin in state `st` on line n
+pub record Restating (target : Edition) (raster : ℕ) (rows : List ℤ) (count : ℕ) (rs : List Placed) : Type 0 where
+  pub e : Edition
+  pub cells : ℕ → List ℤ
+  pub source : Source e target rows count cells
+  pub listed : Section (isListed rows) (KeptRow target raster rows count) 0 count rs
+
+abbrev pub out : Edition → ℕ → List ℕ → List ℕ → List ℤ → ℕ → List ℤ → List Placed → State → ℕ → List Placed
+out target raster file site rows count samples rs st n = firstRows target raster file site rows count samples (rs ++ shapesGiven target rows samples st n 0 count)
+
+module _ {target : Edition} {raster : ℕ} {rows : List ℤ} {count : ℕ} {rs : List Placed} (g : Restating target raster rows count rs) (file site : List ℕ) (samples : List ℤ) (st : State) (n : ℕ) where
   -- ---- The parts
   abbrev blocks : List Placed
   blocks = formRows target raster rows count Block (definitionsEnd target file site 6)
@@ -49,8 +57,11 @@ module _ {e target : Edition} (raster : ℕ) (file site : List ℕ) {rows : List
   abbrev pub rest : List Placed
   rest = events ++ (delays ++ (rs ++ shapes))
 
-  abbrev pub out : List Placed
-  out = firstRows target raster file site rows count samples (rs ++ shapes)
+  abbrev text : List Placed
+  text = out target raster file site rows count samples rs st n
+
+  abbrev s : Source (g .e) target rows count (g .cells)
+  s = g .source
 
   -- ---- Keys rise
   abbrev Stands : List ℤ → ℕ → Type 0
@@ -70,10 +81,10 @@ module _ {e target : Edition} (raster : ℕ) (file site : List ℕ) {rows : List
   rest-rising =
       rising-then (events-rising behindBlocks) (omega arith)
       (rising-then (delays-rising target raster rows count (s .small) (s .few) target _) (omega arith)
-      (rising-then (kept-rising target raster rows count 6 (listed-part rows) (listed-section raster s x f)) (omega arith)
+      (rising-then (kept-rising target raster rows count 6 (listed-part rows) (g .listed)) (omega arith)
       (kept-rising target raster rows count 7 (λ k i. kind-part rows k 11 i) (shapes-section raster s samples st n 0 count (omega arith)))))
 
-  pub out-rising : Rising Stands 0 out (7 * count + (0 + count))
+  pub out-rising : Rising Stands 0 text (7 * count + (0 + count))
   unfolding firstRows
   out-rising = let z : 0 * count + 0 ≡ 0 = omega arith in rw z at (rising-then (form-rising 0 Block (block-section raster s (definitionsEnd target file site 6)) refl) (omega arith) rest-rising)
 
@@ -89,19 +100,19 @@ module _ {e target : Edition} (raster : ℕ) (file site : List ℕ) {rows : List
     unfolding isKind
     is-kind m q = rw q (sameZ-refl (pos m))
 
-    pub block-among : isOfForm Block rows k ≡ true → Among (λ row. KeptRow target raster rows count row k) out
+    pub block-among : isOfForm Block rows k ≡ true → Among (λ row. KeptRow target raster rows count row k) text
     unfolding firstRows
     block-among i = among-left rest (in-section (block-section raster s (definitionsEnd target file site 6)) i)
 
-    in-events : Here events → Here out
+    in-events : Here events → Here text
     unfolding firstRows
     in-events a = among-right blocks (among-left (delays ++ (rs ++ shapes)) a)
 
-    in-listed : isListed rows k ≡ true → Here out
+    in-listed : isListed rows k ≡ true → Here text
     unfolding firstRows
-    in-listed i = among-right blocks (among-right events (among-right delays (among-left shapes (in-section (listed-section raster s x f) i))))
+    in-listed i = among-right blocks (among-right events (among-right delays (among-left shapes (in-section (g .listed) i))))
 
-    in-shapes : isKind rows k (pos shapeKind) ≡ true → Here out
+    in-shapes : isKind rows k (pos shapeKind) ≡ true → Here text
     unfolding firstRows
     in-shapes i = among-right blocks (among-right events (among-right delays (among-right rs (in-section (shapes-section raster s samples st n 0 count (omega arith)) i))))
 
@@ -121,13 +132,13 @@ module _ {e target : Edition} (raster : ℕ) (file site : List ℕ) {rows : List
     unfolding eventRows
     in-adc i = among-right (formRows target raster rows count Rf _) (among-right (formRows target raster rows count Gradient _) (among-right (formRows target raster rows count Trap _) (in-section (form-section raster s Adc refl refl _) i)))
 
-    pub kept-among : isKept rows k ≡ true → Among (λ row. KeptRow target raster rows count row k) out
+    pub kept-among : isKept rows k ≡ true → Among (λ row. KeptRow target raster rows count row k) text
     kept-among kept = go (own s k h .kind) (own s k h .least) (own s k h .most) (kind-is s k h)
       where
         no-delay : numberAt rows k 0 ≡ pos 6 → ⊥
         no-delay q = unfold isKept sameZ in true≢false (sym (rw q at kept))
 
-        go : (m : ℕ) → 1 ≤ m → m ≤ 11 → numberAt rows k 0 ≡ pos m → Here out
+        go : (m : ℕ) → 1 ≤ m → m ≤ 11 → numberAt rows k 0 ≡ pos m → Here text
         go zero l u q = absurd (omega arith)
         go (suc zero) l u q = block-among (is-kind 1 q)
         go (suc (suc zero)) l u q = in-events (in-rf (is-kind 2 q))
@@ -143,7 +154,7 @@ module _ {e target : Edition} (raster : ℕ) (file site : List ℕ) {rows : List
         go (suc (suc (suc (suc (suc (suc (suc (suc (suc (suc (suc (suc m)))))))))))) l u q = absurd (omega arith)
 
     -- delay rows, of 1.3.1 alone
-    pub delay-among : target ≡ V13 → isFirst rows count k ≡ true → Among (λ row. DelayRow rows count row k) out
+    pub delay-among : target ≡ V13 → isFirst rows count k ≡ true → Among (λ row. DelayRow rows count row k) text
     unfolding firstRows
     delay-among v i = among-right blocks (among-right events (among-left (rs ++ shapes) (there target v _)))
       where
