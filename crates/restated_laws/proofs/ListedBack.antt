@@ -244,7 +244,7 @@ pub data Listing (e : Edition) (rows : List ℤ) : Listed → ℕ → ℕ → �
       → isKind rows k (pos (formNumber Trigger)) ≡ true → InRangeOf e Trigger (numbersAt rows k) → Listing e rows Triggers (suc n) (suc k) m rs last end
       → Listing e rows Triggers n k (suc m) (record { line = n; cells = backRow e Trigger (numbersAt rows k) } ∷ rs) last end
   list-label : {last : Listed} {n k m end : ℕ} {rs : List Placed} (increment : Bool) (id label : ℕ) (v : ℤ) → isKind rows k (pos (formNumber Entry)) ≡ false → isKind rows k (pos extensionKind) ≡ false
-      → isKind rows k (pos (formNumber Trigger)) ≡ false → isKind rows k (pos labelKind) ≡ true → numberAt rows k 1 ≡ pos id → numberAt rows k 3 ≡ v → numberAt rows k 4 ≡ pos label → 1 ≤ id
+      → isKind rows k (pos (formNumber Trigger)) ≡ false → isKind rows k (pos labelKind) ≡ true → numberAt rows k 1 ≡ pos id → numberAt rows k 2 ≡ pos (cond increment 1 0) → numberAt rows k 3 ≡ v → numberAt rows k 4 ≡ pos label → 1 ≤ id
       → id ≤ largestId → natAbs v ≤ largestId → 1 ≤ label → label ≤ 13 → labelValue e increment label (signedText v) ≡ SignedValue v → Listing e rows (Labels increment) (suc n) (suc k) m rs last end
       → Listing e rows (Labels increment) n k (suc m) (record { line = n; cells = padded labelKind (pos id ∷ pos (cond increment 1 0) ∷ v ∷ pos label ∷ []) } ∷ rs) last end
 
@@ -262,7 +262,7 @@ listed-lines-back e rows small seen samples (list-extension {listed = listed} {n
     rw (a, b) (goes-then (extension-back (listedAt e seen samples listed) n rows k listed refl type code t c l m o h) (listed-lines-back e rows small seen samples x))
 listed-lines-back e rows small seen samples (list-trigger {n = n} {k = k} a b c r x) =
     rw (a, b, c) (goes-then (trigger-back (listedAt e seen samples Triggers) n (numbersAt rows k) (numbers-small rows small k) refl r) (listed-lines-back e rows small seen samples x))
-listed-lines-back e rows small seen samples (list-label {n = n} {k = k} increment id label v a b c d i w j l m g o h value x) =
+listed-lines-back e rows small seen samples (list-label {n = n} {k = k} increment id label v a b c d i f w j l m g o h value x) =
     rw (a, b, c, d)
     (goes-then (label-back (listedAt e seen samples (Labels increment)) n rows k increment refl id label v i w j l m g o h value) (listed-lines-back e rows small seen samples x))
 

@@ -26,7 +26,7 @@ use Rattle.restated_laws.proofs.RowBack.{ownOf}
 use Rattle.restated_laws.proofs.SectionBack.{InRangeOf}
 
 -- ---- What a row's own numbers are
-own-whole : (k : Kind) (ks : List Kind) (v : ℤ) (vs : List ℤ) → isWhole k ≡ true → ownOf (k ∷ ks) (v ∷ vs) ≡ v ∷ ownOf ks vs
+pub own-whole : (k : Kind) (ks : List Kind) (v : ℤ) (vs : List ℤ) → isWhole k ≡ true → ownOf (k ∷ ks) (v ∷ vs) ≡ v ∷ ownOf ks vs
 unfolding ownOf
 own-whole Id ks v vs e = refl
 own-whole Reference ks v vs e = refl
@@ -40,7 +40,7 @@ own-whole Dwell ks v vs e = refl
 own-whole Absent ks v vs e = absurd (true≢false (sym e))
 
 -- they go by as many numbers as the columns are wide
-own-agrees : (ks : List Kind) (us vs : List ℤ) → ((c : ℕ) → c < widthsOf ks → getD us c (pos 0) ≡ getD vs c (pos 0)) → ownOf ks us ≡ ownOf ks vs
+pub own-agrees : (ks : List Kind) (us vs : List ℤ) → ((c : ℕ) → c < widthsOf ks → getD us c (pos 0) ≡ getD vs c (pos 0)) → ownOf ks us ≡ ownOf ks vs
 unfolding ownOf widthsOf
 own-agrees [] us vs h = refl
 own-agrees (k ∷ ks) us vs h = go k h (λ w g. own-agrees ks (drop w us) (drop w vs) (λ c l. getD-drop w us c (pos 0) ∙ g c l ∙ sym (getD-drop w vs c (pos 0))))
@@ -65,25 +65,25 @@ own-agrees (k ∷ ks) us vs h = go k h (λ w g. own-agrees ks (drop w us) (drop 
     go Absent h r = rw (r 1 (λ c (l : c < widthsOf ks). h (1 + c) (omega arith)))
 
 -- ---- A first number, and a first column that has none
-record Front (k : Kind) (ks : List Kind) (vs : List ℤ) : Type 0 where
-  n : ℕ
-  rest : List ℤ
-  is : vs ≡ pos n ∷ rest
-  least : leastOf k ≤ n
-  most : n ≤ mostOf k
-  more : InRange ks rest
+pub record Front (k : Kind) (ks : List Kind) (vs : List ℤ) : Type 0 where
+  pub n : ℕ
+  pub rest : List ℤ
+  pub is : vs ≡ pos n ∷ rest
+  pub least : leastOf k ≤ n
+  pub most : n ≤ mostOf k
+  pub more : InRange ks rest
 
-front-of : {k : Kind} {ks : List Kind} {vs : List ℤ} → isWhole k ≡ true → InRange (k ∷ ks) vs → Front k ks vs
+pub front-of : {k : Kind} {ks : List Kind} {vs : List ℤ} → isWhole k ≡ true → InRange (k ∷ ks) vs → Front k ks vs
 front-of w (no-field r) = absurd (true≢false (sym w))
 front-of w (one-number {n = n} {vs = vs} e l m r) = record { n = n; rest = vs; is = refl; least = l; most = m; more = r }
 front-of w (two-numbers k r) = absurd (true≢false (sym w))
 
-record Gone (ks : List Kind) (vs : List ℤ) : Type 0 where
-  rest : List ℤ
-  is : vs ≡ pos 0 ∷ rest
-  more : InRange ks rest
+pub record Gone (ks : List Kind) (vs : List ℤ) : Type 0 where
+  pub rest : List ℤ
+  pub is : vs ≡ pos 0 ∷ rest
+  pub more : InRange ks rest
 
-gone-of : {k : Kind} {ks : List Kind} {vs : List ℤ} → k ≡ Absent → InRange (k ∷ ks) vs → Gone ks vs
+pub gone-of : {k : Kind} {ks : List Kind} {vs : List ℤ} → k ≡ Absent → InRange (k ∷ ks) vs → Gone ks vs
 gone-of a (no-field {vs = vs} r) = record { rest = vs; is = refl; more = r }
 gone-of a (one-number e l m r) = absurd (true≢false (sym e ∙ ap isWhole a))
 gone-of a (two-numbers k r) = absurd (let z : _≡_ {A = ℕ} 0 1 = cc in omega arith)
@@ -140,13 +140,13 @@ columns-like e target Entry p = like-all _
 columns-like e target Trigger p = like-all _
 
 -- ---- The numbers of row k behind its kind
-numbers-getD : (rows : List ℤ) (k c m i : ℕ) → i < m → getD (numbersFrom rows k c m) i (pos 0) ≡ numberAt rows k (c + i)
+pub numbers-getD : (rows : List ℤ) (k c m i : ℕ) → i < m → getD (numbersFrom rows k c m) i (pos 0) ≡ numberAt rows k (c + i)
 unfolding numbersFrom
 numbers-getD rows k c zero i h = absurd (omega arith)
 numbers-getD rows k c (suc m) zero h = let z : c + 0 ≡ c = omega arith in rw z
 numbers-getD rows k c (suc m) (suc i) h = let z : c + suc i ≡ suc c + i = omega arith in rw z (numbers-getD rows k (suc c) m i (omega arith))
 
-behind-getD : (rows : List ℤ) (k c : ℕ) → c < 11 → getD (drop 1 (numbersAt rows k)) c (pos 0) ≡ numberAt rows k (suc c)
+pub behind-getD : (rows : List ℤ) (k c : ℕ) → c < 11 → getD (drop 1 (numbersAt rows k)) c (pos 0) ≡ numberAt rows k (suc c)
 unfolding numbersAt numbersFrom
 behind-getD rows k c h = let z : 1 + c ≡ suc c = omega arith in rw z at (numbers-getD rows k 1 11 c h)
 

@@ -249,7 +249,7 @@ uses-most rows n k (suc m) = go (isFirst rows n k) (uses-most rows n (suc k) m)
     go true h = omega arith
     go false h = omega arith
 
-micros-most : (rows : List ℤ) (k : ℕ) → microsAt rows k ≤ nanosAt rows k / 1000
+pub micros-most : (rows : List ℤ) (k : ℕ) → microsAt rows k ≤ nanosAt rows k / 1000
 unfolding microsAt wholeMicros inMicros
 micros-most rows k = go (eqb (nanosAt rows k % 1000) 0)
   where
@@ -258,7 +258,7 @@ micros-most rows k = go (eqb (nanosAt rows k % 1000) 0)
     go false = omega arith
 
 module _ (rows : List ℤ) (count k : ℕ) (h : k < count) (f : isFirst rows count k ≡ true) where
-  first-number : delayNumber rows count k ≡ suc (usesIn rows count 0 k)
+  pub first-number : delayNumber rows count k ≡ suc (usesIn rows count 0 k)
   unfolding isFirst delayNumber
   first-number =
       let p = and-both (not (eqb (nanosAt rows k) 0)) (eqb (firstUse rows count k) k) f in

@@ -99,7 +99,7 @@ module _ {P : List ℤ → Type 0} (columns : (form : Form) (vs : List ℤ) → 
     listing-all (list-entry a r x) = more-cells (columns Entry _) (listing-all x)
     listing-all (list-extension type code a b t c l m o h x) = more-cells (extensions type code) (listing-all x)
     listing-all (list-trigger a b c r x) = more-cells (columns Trigger _) (listing-all x)
-    listing-all (list-label increment id label v a b c d i w j l m g o h value x) = more-cells (labels _) (listing-all x)
+    listing-all (list-label increment id label v a b c d i f w j l m g o h value x) = more-cells (labels _) (listing-all x)
 
     pub listed-all : {target : Edition} {rows : List ℤ} {count n end : ℕ} {rs : List Placed} {b : Bool} {last : Listed} → ListedFrom target rows count n rs b last end → AllCells P rs
     listed-all (none-listed h) = no-cells

@@ -147,7 +147,7 @@ module _ (rows : List ℤ) {ss : List Placed} (none : AllCells NoCode ss) where
   listing-other (list-extension {k = k} {m = m} type own a b t c l u o v x) code f =
       extension-other type own code (λ (e : own ≡ code). f k (omega arith) (omega arith) b (c ∙ ap pos e)) (listing-other x code (later code k m f))
   listing-other (list-trigger {k = k} {m = m} a b c r x) code f = front-other (columns-no-code Trigger _) (listing-other x code (later code k m f))
-  listing-other (list-label {k = k} {m = m} increment id label v a b c d i w y l u g o h value x) code f = front-other (kind-no-code labelKind _ refl) (listing-other x code (later code k m f))
+  listing-other (list-label {k = k} {m = m} increment id label v a b c d i r w y l u g o h value x) code f = front-other (kind-no-code labelKind _ refl) (listing-other x code (later code k m f))
 
   module _ (count : ℕ) (once : CodesOnce rows count) where
     listing-apart : {e : Edition} {listed last : Listed} {n k m end : ℕ} {rs : List Placed} → Listing e rows listed n k m rs last end → k + m ≤ count → CodesApart (rs ++ ss)
@@ -159,7 +159,7 @@ module _ (rows : List ℤ) {ss : List Placed} (none : AllCells NoCode ss) where
         (listing-other x own (λ j (g : suc k ≤ j) (h : j < suc k + m) i d. let y : k ≡ j = once k j own (omega arith) (omega arith) b i o c d in absurd (omega arith)))
         (listing-apart x (omega arith))
     listing-apart (list-trigger a b c r x) f = front-apart (columns-no-code Trigger _) (listing-apart x (omega arith))
-    listing-apart (list-label increment id label v a b c d i w y l u g o h value x) f = front-apart (kind-no-code labelKind _ refl) (listing-apart x (omega arith))
+    listing-apart (list-label increment id label v a b c d i r w y l u g o h value x) f = front-apart (kind-no-code labelKind _ refl) (listing-apart x (omega arith))
 
     listed-apart : {target : Edition} {n end : ℕ} {rs : List Placed} {b : Bool} {last : Listed} → ListedFrom target rows count n rs b last end → CodesApart (rs ++ ss)
     listed-apart (none-listed h) = apart-all none

@@ -84,7 +84,7 @@ module _ (target : Edition) (rows : List ℤ) (count : ℕ) (can : CanSay target
       let four = own 3 (omega arith) in
       let other : target ≡ V13 → label ≡ 13 → ⊥ = λ e. not-once rows k label (w .kind-is) four (can .no-once e k h) in
       lines
-      (list-label increment id label v (kind 7) (kind 8) (kind 9) (kind 10) (own 0 (omega arith)) (own 2 (omega arith)) four a b c d g
+      (list-label increment id label v (kind 7) (kind 8) (kind 9) (kind 10) (own 0 (omega arith)) (own 1 (omega arith)) (own 2 (omega arith)) four a b c d g
       (value-said target increment label (signedText v) other ∙ value) (rest (suc n) .listing))
 
   all-rows : {listed : Listed} {rs : List Placed} → InOrder listed rs → (n k : ℕ) → k + length rs ≤ count → ((j : ℕ) → j < length rs → RowHolds rows (k + j) (cellsOf rs j))
