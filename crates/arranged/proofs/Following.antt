@@ -244,10 +244,11 @@ module _ {e target : Edition} {q q′ : Rasters} {a : List ℤ} {n : ℕ} {s : L
       }
 
   -- ---- LONG, OUTLASTS
+  pub moved-length : (k j : ℕ) → k < n → j < m → numberAt a k 0 ≡ pos (formNumber Block) → Alike a k b j → blockLength target q′ b m t j ≡ blockLength e q a n s k
+  moved-length k j h l i y = block-same x (v .samples) q q′ (v .gradient) (v .rf) e (v .follows) target h i y (v .lasts k j h l i y)
+
   length-there : (j : ℕ) → j < m → numberAt b j 0 ≡ pos (formNumber Block) → (y : Stands b j a n) → blockLength target q′ b m t j ≡ blockLength e q a n s (y .j)
-  length-there j h i y =
-      let z = alike-back (y .alike) in
-      block-same x (v .samples) q q′ (v .gradient) (v .rf) e (v .follows) target (y .there) (alike-kind z ∙ i) z (v .lasts (y .j) j (y .there) h (alike-kind z ∙ i) z)
+  length-there j h i y = let z = alike-back (y .alike) in moved-length (y .j) j (y .there) h (alike-kind z ∙ i) z
 
   -- a number that refers to no class meets nothing
   none-length : (id : ℤ) → referenceLength q′ b m t (pos 0) id ≡ 0

@@ -29,7 +29,7 @@ use Rattle.demands.specs.Keeping.{SoundSite, RastersGood, Keeps}
 use Rattle.demands.specs.Refusing.{textIn}
 use Rattle.demands.proofs.Exactly.{rows-hold}
 use Rattle.restated_laws.proofs.DefinedBack.{AllDefining, numbered}
-use Rattle.restated_laws.proofs.DefinedFound.{said-defining}
+use Rattle.restated_laws.proofs.DefinedFound.{HasRasters, said-defining}
 use Rattle.restated_laws.proofs.DefinedSection.{saidDefinitions}
 use Rattle.restated_laws.proofs.TextBack.{Readable, ListedFrom, delaysEnd}
 use Rattle.restated_laws.proofs.WholeBack.{endState, restated-ends, restated-rows, restated-definitions}
@@ -39,7 +39,7 @@ use Rattle.restated_source.proofs.Readable.{readable, source-listed}
 use Rattle.restated_shapes.proofs.Stored.{stored-back}
 use Rattle.restated_shapes.proofs.Words.{words-once}
 use Rattle.restated_shapes.proofs.Once.{keys-once, held-codes-once}
-use Rattle.plays_same.proofs.Rasters.{rasters-back, target-rasters, rasters-said}
+use Rattle.plays_same.proofs.Rasters.{rasters-back, target-rasters, said-some, rasters-said}
 use Rattle.plays_same.proofs.Ending.{end-edition, end-defined}
 
 -- ---- What restating knows of a source that it does not refuse
@@ -77,8 +77,11 @@ module _ {target : Edition} {file site : List ℕ} {room size : ℕ} (v : Sayabl
   unfolding lacksRasters
   good-rasters = target-rasters target (editionIn (scannedOf file)) (ownRasters file site) (siteRasters site) (v .rasters)
 
+  has-rasters : target ≡ V14 → HasRasters file site
+  has-rasters t = rasters-said file site e (subst (λ (g : Edition). RastersGood g (rastersOf e file site)) t (subst (RastersGood target) own-rasters good-rasters))
+
   all-defining : AllDefining (saidDefinitions target file site)
-  all-defining = said-defining file site target (λ t. rasters-said file site e (subst (λ (g : Edition). RastersGood g (rastersOf e file site)) t (subst (RastersGood target) own-rasters good-rasters)))
+  all-defining = said-defining file site target has-rasters
 
   -- ---- The text reads back
   pub back-readable : Readable target raster file site rows count samples
@@ -103,7 +106,8 @@ module _ {target : Edition} {file site : List ℕ} {room size : ℕ} (v : Sayabl
   back-rasters = rasters-back file site text e target back-definitions (v .keeps .rasters)
 
   pub back-defined : target ≡ V14 → getD (endOf .seen) 2 false ≡ true
-  back-defined t = end-defined target raster file site rows count samples back-readable (back-listed .listed) ?
+  back-defined t = end-defined target raster file site rows count samples back-readable (back-listed .listed)
+      (subst (λ (g : Edition). 1 ≤ length (saidDefinitions g file site)) (sym t) (said-some file site (has-rasters t)))
 
   -- ---- Stored lines and words
   pub back-stored : NoneAgain rows count → (k : ℕ) → k < count → isKind rows k (pos shapeKind) ≡ true → storedOf text (numberAt rows k 1) ≡ storedText target (samplesAt rows k samples)

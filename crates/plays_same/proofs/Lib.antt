@@ -4,3 +4,9 @@ pub mod Ending
 pub mod Durations
 pub mod Tables
 pub mod Back
+pub mod Facts
+pub mod Arrangement
+pub mod Shapes
+pub mod Lasting
+pub mod Replay
+pub mod Theorem

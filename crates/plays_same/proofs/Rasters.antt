@@ -82,23 +82,24 @@ added-sought own site block-raster h =
     ∙ absent-own own site blockKey [] h
 
 -- ---- What a restated text says of a raster is the file's value, or else the site's
-module _ (file site text : List ℕ) {key : List ℕ} (raster : IsRaster key) where
-  said-value : (target : Edition) → definitionsOf text ≡ numbered 7 (saidDefinitions target file site) → textOf target text site key ≡ definitionOf file site key
-  unfolding textOf definitionOf saidDefinitions eitherOf
-  said-value V13 d =
-      ap (λ (ds : List Definition). eitherOf (sought key ds) (sought key (siteDefinitions site))) d
-      ∙ ap (λ (v : List ℕ). eitherOf v (sought key (siteDefinitions site)))
-      (sought-numbered key 7 (saidDefinitions V13 file site) ∙ ap (sought key) (unfold saidDefinitions addedOf in append-nil (definitionsOf file)))
-  said-value V14 d =
-      ap (sought key) d
-      ∙ sought-numbered key 7 (saidDefinitions V14 file site)
-      ∙ sought-append key (file-defining file) (addedOf V14 (definitionsOf file) (siteDefinitions site))
-      ∙ go (eqb (length (sought key (definitionsOf file))) 0) refl
+module _ (file site : List ℕ) {key : List ℕ} (raster : IsRaster key) where
+  sought-said : sought key (saidDefinitions V14 file site) ≡ definitionOf file site key
+  unfolding definitionOf saidDefinitions eitherOf
+  sought-said =
+      sought-append key (file-defining file) (addedOf V14 (definitionsOf file) (siteDefinitions site)) ∙ go (eqb (length (sought key (definitionsOf file))) 0) refl
     where
       go : (b : Bool) → eqb (length (sought key (definitionsOf file))) 0 ≡ b
           → cond b (sought key (addedOf V14 (definitionsOf file) (siteDefinitions site))) (sought key (definitionsOf file)) ≡ cond b (sought key (siteDefinitions site)) (sought key (definitionsOf file))
       go true h = added-sought (definitionsOf file) (siteDefinitions site) raster h
       go false h = refl
+
+  said-value : (text : List ℕ) (target : Edition) → definitionsOf text ≡ numbered 7 (saidDefinitions target file site) → textOf target text site key ≡ definitionOf file site key
+  unfolding textOf definitionOf
+  said-value text V13 d =
+      ap (λ (ds : List Definition). eitherOf (sought key ds) (sought key (siteDefinitions site))) d
+      ∙ ap (λ (v : List ℕ). eitherOf v (sought key (siteDefinitions site)))
+      (sought-numbered key 7 (saidDefinitions V13 file site) ∙ ap (sought key) (unfold saidDefinitions addedOf in append-nil (definitionsOf file)))
+  said-value text V14 d = ap (sought key) d ∙ sought-numbered key 7 (saidDefinitions V14 file site) ∙ sought-said
 
   -- ---- and so is what the source went by, where it is a raster
   none-worth : rasterOf [] ≡ 0
@@ -128,7 +129,7 @@ module _ (file site text : List ℕ) {key : List ℕ} (raster : IsRaster key) wh
 -- ---- All four
 module _ (file site text : List ℕ) (e target : Edition) (d : definitionsOf text ≡ numbered 7 (saidDefinitions target file site)) where
   raster-back : {key : List ℕ} → IsRaster key → (e ≡ V14 → 1 ≤ rasterOf (textOf e file site key)) → rasterOf (textOf target text site key) ≡ rasterOf (textOf e file site key)
-  raster-back r h = ap rasterOf (said-value file site text r target d ∙ sym (own-value file site text r e h))
+  raster-back r h = ap rasterOf (said-value file site r text target d ∙ sym (own-value file site r e h))
 
   pub rasters-back : RastersGood e (rastersOf e file site) → rastersOf target text site ≡ rastersOf e file site
   unfolding rastersOf
@@ -143,9 +144,22 @@ target-rasters V13 e q s l =
     record { gradient = good .gradient; rf = good .rf; adc = λ v. absurd (editions-differ v); block = λ v. absurd (editions-differ v) }
 target-rasters V14 e q s l = rasters-of V14 q (or-none (lacks e q) (lacks V14 q) l .1)
 
+-- a text that says a raster says something
+pub said-some : (file site : List ℕ) → HasRasters file site → 1 ≤ length (saidDefinitions V14 file site)
+unfolding sought
+said-some file site h =
+    ⊎-elim
+    (λ (l : length (saidDefinitions V14 file site) < 1).
+    absurd
+    (let z = h .0 in
+    let w : length (definitionOf file site gradientKey) ≡ 0 =
+    ap length (sym (sought-said file site gradient-raster) ∙ ap (sought gradientKey) (length-none (saidDefinitions V14 file site) (omega arith))) in
+    omega arith))
+    (λ l. l) (lt-or-ge (length (saidDefinitions V14 file site)) 1)
+
 -- and for 1.4.1 each has a text, the file's or the site's
 pub rasters-said : (file site : List ℕ) (e : Edition) → RastersGood V14 (rastersOf e file site) → HasRasters file site
 unfolding rastersOf
 rasters-said file site e good =
-    (has-value file site [] gradient-raster e (good .gradient),
-    (has-value file site [] rf-raster e (good .rf), (has-value file site [] adc-raster e (good .adc refl), has-value file site [] block-raster e (good .block refl))))
+    (has-value file site gradient-raster e (good .gradient),
+    (has-value file site rf-raster e (good .rf), (has-value file site adc-raster e (good .adc refl), has-value file site block-raster e (good .block refl))))

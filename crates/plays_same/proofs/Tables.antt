@@ -16,7 +16,7 @@ use Rattle.shape.specs.declared.Edition.{Edition}
 use Rattle.columns.specs.Columns.{formNumber, shapeKind}
 use Rattle.columns.specs.Rows.{rowWidth}
 use Rattle.columns.specs.declared.Form.the-variants.{Block}
-use Rattle.tables.specs.Tables.{numberAt, NoneAgain}
+use Rattle.tables.specs.Tables.{numberAt, NoneAgain, samplesAt}
 use Rattle.tables.proofs.Numbers.{number-beyond}
 use Rattle.file.specs.Rows.{rowsOf}
 use Rattle.file_tables.specs.Tables.{cellsOf}
@@ -24,10 +24,10 @@ use Rattle.file_tables.proofs.Laid.{row-held}
 use Rattle.file_tables.proofs.Whole.{rows-twelve}
 use Rattle.rasters.specs.Rasters.{rastersOf}
 use Rattle.blocks.specs.Blocks.{blockLength, isBlock}
-use Rattle.reader.specs.Reading.{zeros, rowsLaid, rowsOut}
+use Rattle.reader.specs.Reading.{zeros, rowsLaid, rowsOut, samplesOut}
 use Rattle.demands.specs.Keeping.{SoundSite, Keeps, RowsHeld}
 use Rattle.demands.proofs.Questions.{of-once, none-twice}
-use Rattle.demands.proofs.Exactly.{rows-hold}
+use Rattle.demands.proofs.Exactly.{rows-hold, samples-hold}
 use Rattle.arranged.specs.Alike.{isAnew, Alike, Arranged}
 use Rattle.arranged.proofs.Turning.{same-arranged}
 
@@ -51,7 +51,7 @@ module _ (file : List ℕ) (room : ℕ) (fits : length (rowsOf file) ≤ room / 
   abbrev n : ℕ
   n = length (rowsOf file)
 
-  room-fits : n ≤ length (zeros room) / 12
+  pub room-fits : n ≤ length (zeros room) / 12
   room-fits = rw (length-replicate room (pos 0)) fits
 
   pub laid-number : (k c : ℕ) → k < n → c < 12 → numberAt laid k c ≡ getD (cellsOf (rowsOf file) k) c (pos 0)
@@ -91,6 +91,14 @@ module _ (file : List ℕ) (room : ℕ) (fits : length (rowsOf file) ≤ room / 
     pub full-length : (k : ℕ) → k < n → numberAt laid k 0 ≡ pos (formNumber Block) → numberAt full k 9 ≡ pos (blockLength e q laid n (keeps .samples) k)
     unfolding sameZ
     full-length k h i = held .numbers k 9 h (omega arith) ∙ rw i
+
+    -- a shape's samples
+    pub full-samples : (k : ℕ) → k < n → numberAt laid k 0 ≡ pos shapeKind → samplesAt laid k (keeps .samples) ≡ samplesAt full k (samplesOut file site room size)
+    unfolding samplesAt
+    full-samples k h i = rw (samples-hold file site room size sound keeps, number 2 (omega arith), number 3 (omega arith))
+      where
+        number : (c : ℕ) → c < 12 → numberAt full k c ≡ numberAt laid k c
+        number c l = full-number k c h l (unfold sameZ in rw i)
 
     pub full-past : numberAt full n 0 ≡ pos 0
     unfolding numberAt

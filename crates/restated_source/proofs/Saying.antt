@@ -36,18 +36,33 @@ module _ (target : Edition) (q s : Rasters) (rows : List ℤ) (n : ℕ) (said : 
   unfolding unsayable anyUnsaid unsaid
   row-said k h = or-neither (isUnknown rows k) (unsaidIn target q rows k) (such-none-of (unsaid target q rows) n (or-neither (anyUnsaid target q rows n) (differIn target q s) said .0) k h)
 
-  not-once : target ≡ V13 → (k : ℕ) → k < n → namesOnce rows k ≡ false
+  -- for 1.3.1
+  rows-13 : target ≡ V13 → (k : ℕ) → k < n → (hasTime rows k ≡ false) × (offMicros rows k || namesOnce rows k ≡ false)
   unfolding unsaid13
-  not-once v k h =
-      let x = or-neither (hasTime rows k) (offMicros rows k || namesOnce rows k) (in-13 target q rows k v ∙ row-said k h .1) .1 in
-      or-neither (offMicros rows k) (namesOnce rows k) x .1
+  rows-13 v k h = or-neither (hasTime rows k) (offMicros rows k || namesOnce rows k) (in-13 target q rows k v ∙ row-said k h .1)
+
+  pub no-times : target ≡ V13 → (k : ℕ) → k < n → hasTime rows k ≡ false
+  no-times v k h = rows-13 v k h .0
+
+  pub whole-micros : target ≡ V13 → (k : ℕ) → k < n → offMicros rows k ≡ false
+  whole-micros v k h = or-neither (offMicros rows k) (namesOnce rows k) (rows-13 v k h .1) .0
+
+  not-once : target ≡ V13 → (k : ℕ) → k < n → namesOnce rows k ≡ false
+  not-once v k h = or-neither (offMicros rows k) (namesOnce rows k) (rows-13 v k h .1) .1
 
   pub can-say : CanSay target rows n
   can-say = record { known = λ k h. row-said k h .0; no-once = not-once }
 
-  on-raster : target ≡ V14 → (k : ℕ) → k < n → offRaster q rows k ≡ false
+  -- for 1.4.1
+  rows-14 : target ≡ V14 → (k : ℕ) → k < n → (misalignedAt q rows k ≡ false) × (offRaster q rows k ≡ false)
   unfolding unsaid14
-  on-raster v k h = or-neither (misalignedAt q rows k) (offRaster q rows k) (in-14 target q rows k v ∙ row-said k h .1) .1
+  rows-14 v k h = or-neither (misalignedAt q rows k) (offRaster q rows k) (in-14 target q rows k v ∙ row-said k h .1)
+
+  pub on-time : target ≡ V14 → (k : ℕ) → k < n → misalignedAt q rows k ≡ false
+  on-time v k h = rows-14 v k h .0
+
+  pub on-raster : target ≡ V14 → (k : ℕ) → k < n → offRaster q rows k ≡ false
+  on-raster v k h = rows-14 v k h .1
 
 -- ---- A block's duration: in 1.4 whole rasters, in 1.3.1 a delay's ID
 steps-few : (r : OnRaster) → notSteps r ≡ false → stepsOf r ≤ 10 ^ 9
@@ -55,7 +70,7 @@ unfolding notSteps stepsOf
 steps-few (Steps c) e = ltb-false (10 ^ 9) (c .0) e
 steps-few Off e = omega arith
 
-delay-few : (rows : List ℤ) (n k : ℕ) → delayNumber rows n k ≤ n
+pub delay-few : (rows : List ℤ) (n k : ℕ) → delayNumber rows n k ≤ n
 unfolding delayNumber
 delay-few rows n k = go (eqb (nanosAt rows k) 0) (ltb (firstUse rows n k) n) refl
   where
