@@ -42,8 +42,11 @@ module _ {a b : List ℤ} {n : ℕ} (each : (k : ℕ) → k < n → Alike a k b 
   once-too : NoneAgain a n → NoneAgain b n
   unfolding NoneAgain firstRow
   once-too once k h =
-      rw (← alike-class (each k h), ← alike-id (each k h),
-      ← such-agree (isRowOf a (classAt a k) (numberAt a k 1)) (isRowOf b (classAt a k) (numberAt a k 1)) 0 n (λ j l (u : j < 0 + n). alike-row (each j (omega arith)) (classAt a k) (numberAt a k 1)))
+      rw (
+        ← alike-class (each k h),
+        ← alike-id (each k h),
+        ← such-agree (isRowOf a (classAt a k) (numberAt a k 1)) (isRowOf b (classAt a k) (numberAt a k 1)) 0 n (λ j l (u : j < 0 + n). alike-row (each j (omega arith)) (classAt a k) (numberAt a k 1)),
+      )
       (once k h)
 
   pub same-arranged : NoneAgain a n → Arranged a n b n

@@ -37,7 +37,7 @@ use Rattle.demands.proofs.Passing.{Passed, accepted-passes, passed-acce
 use Rattle.demands.proofs.Lines.{runs-verdict, verdict-runs}
 use Rattle.demands.proofs.Ruling.{such-all, all-such, meets, dangles-not, chain-ends, loops-not, fits-of, of-fits, aligned-in, of-aligned-in, short-of, of-short, lasting-in, of-lasting-in}
 use Rattle.demands.proofs.Samples.{stacked-sum, shape-of, of-shape, laid-held, held-same, held-in}
-use Rattle.demands.proofs.Questions.{big-of, of-big, missing-block, missing-defined, of-missing, room-samples, of-room, of-site, of-once, none-twice, rasters-of, of-rasters, rasters-in}
+use Rattle.demands.proofs.Questions.{big-of, site-of, of-big, missing-block, missing-defined, of-missing, room-samples, of-room, of-site, of-once, none-twice, rasters-of, of-rasters, rasters-in}
 use Rattle.demands.proofs.Tables.{rows-held-all}
 
 -- ---- a file that comes to its end, small, with room for its rows and samples: what is known of its tables
@@ -161,6 +161,11 @@ module _ (file site : List ℕ) (room size : ℕ) where
       let x = accepted-passes file site (zeros room) (zeros size) a in
       let ends = scanned-ends file (x .edition) (x .n) (x .s) (x .defined) (x .passed .scanned) in
       keeps-of (ends .end) (ends .verdict) (passed-at (ends .edition) (ends .rows) (ends .samples) (ends .definitions) (x .passed))
+
+  -- whatever is accepted came with a site text of at most 4,096 bytes
+  pub accepted-site : isAccepted (readOf file site room size) ≡ true → length site ≤ 4096
+  unfolding readOf
+  accepted-site a = site-of file site (accepted-passes file site (zeros room) (zeros size) a .passed .big)
 
   module _ (sound : SoundSite site) (k : Keeps file site room size) where
     verdict : verdictOf file ≡ ended (k .end)

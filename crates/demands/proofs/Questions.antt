@@ -48,6 +48,10 @@ module _ (file site : List ℕ) where
   unfolding isBig
   big-of e = ltb-false (2 ^ 24) (length file) (or-none (ltb (2 ^ 24) (length file)) _ e .0)
 
+  pub site-of : isBig file site ≡ false → length site ≤ 4096
+  unfolding isBig
+  site-of e = ltb-false 4096 (length site) (or-none (ltb (2 ^ 24) (length file)) _ e .1)
+
   pub of-big : length file ≤ 2 ^ 24 → length site ≤ 4096 → isBig file site ≡ false
   unfolding isBig
   of-big h k = or-both (le-ltb (2 ^ 24) (length file) h) (le-ltb 4096 (length site) k)

@@ -42,7 +42,7 @@ module _ (q : Rasters) (rows : List ℤ) (k : ℕ) (block : isBlock rows k ≡ t
       let m : min (stepsOf (onRaster (nanosAt rows k) (q .block .0))) largest ≡ stepsOf (onRaster (nanosAt rows k) (q .block .0)) = omega arith in
       rw m (s .0)
 
--- ---- A block of whole µs lasts as many as are said
+  -- ---- A block of whole µs lasts as many as are said
   pub micros-said : offMicros rows k ≡ false → microsAt rows k * 1000 ≡ nanosAt rows k
   unfolding offMicros isKind microsAt
   micros-said e = go (inMicros (nanosAt rows k)) refl (rw block at e)

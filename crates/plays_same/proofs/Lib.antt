@@ -10,3 +10,4 @@ pub mod Shapes
 pub mod Lasting
 pub mod Replay
 pub mod Theorem
+pub mod Demand

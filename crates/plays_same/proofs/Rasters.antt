@@ -116,7 +116,6 @@ module _ (file site : List ℕ) {key : List ℕ} (raster : IsRaster key) where
           absurd (let l : 1 ≤ rasterOf [] = subst (λ (v : List ℕ). 1 ≤ rasterOf v) n (h refl) in omega arith)
       go false e = refl
 
-
   -- a raster has a text
   has-value : (e : Edition) → 1 ≤ rasterOf (textOf e file site key) → 1 ≤ length (definitionOf file site key)
   has-value e h =
@@ -160,6 +159,7 @@ said-some file site h =
 -- and for 1.4.1 each has a text, the file's or the site's
 pub rasters-said : (file site : List ℕ) (e : Edition) → RastersGood V14 (rastersOf e file site) → HasRasters file site
 unfolding rastersOf
-rasters-said file site e good =
-    (has-value file site gradient-raster e (good .gradient),
-    (has-value file site rf-raster e (good .rf), (has-value file site adc-raster e (good .adc refl), has-value file site block-raster e (good .block refl))))
+rasters-said file site e good = (
+  has-value file site gradient-raster e (good .gradient),
+  (has-value file site rf-raster e (good .rf), (has-value file site adc-raster e (good .adc refl), has-value file site block-raster e (good .block refl))),
+)
