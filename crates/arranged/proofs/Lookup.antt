@@ -111,7 +111,7 @@ met-is rows n class id = go (sameZ id (pos 0))
     go false h = first-is (isRowOf rows class id) 0 n .here (omega arith)
 
 -- a class that is of one kind alone: all but gradients, which have two, and labels, which are two classes
-class-only : (class : ℕ) → (class ≡ classNumber Gradient → ⊥) → (class ≡ classNumber Increment → ⊥) → (kind second : ℤ) → classOf kind second ≡ pos class → kind ≡ pos class
+pub class-only : (class : ℕ) → (class ≡ classNumber Gradient → ⊥) → (class ≡ classNumber Increment → ⊥) → (kind second : ℤ) → classOf kind second ≡ pos class → kind ≡ pos class
 unfolding classOf
 class-only class not-gradient not-increment kind second = go (sameZ kind (pos (formNumber Trap))) (sameZ kind (pos labelKind) && sameZ second (pos 1))
   where

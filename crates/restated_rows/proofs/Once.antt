@@ -15,37 +15,14 @@ use Rattle.repeats.specs.Once.{RowTwice}
 use Rattle.durations.specs.Durations.{usesIn}
 use Rattle.durations.proofs.Using.{use-one}
 use Rattle.durations.proofs.Listing.{uses-after, uses-more}
-use Rattle.arranged.specs.Alike.{isAnew, Alike, isKept}
+use Rattle.arranged.specs.Alike.{isAnew, isKept}
+use Rattle.arranged.proofs.Lookup.{alike-class, class-only}
 use Rattle.restated_laws.proofs.SectionBack.{first-number}
 use Rattle.restated_rows.proofs.Sectioned.{rising-two}
 use Rattle.restated_rows.proofs.Source.{one-row}
 use Rattle.restated_rows.proofs.Standing.{KeptRow}
 use Rattle.restated_rows.proofs.Keys.{DelayRow, Standing, kept, delay}
 use Rattle.restated_rows.proofs.Whole.{Restating, out, out-rising}
-
--- ---- Rows that are alike are of one class
-pub alike-class : {a b : List ℤ} {k j : ℕ} → Alike a k b j → classAt a k ≡ classAt b j
-unfolding classAt classOf isAnew
-alike-class {a} {b} {k} {j} x = rw (← x .same 0 refl) (go (sameZ (numberAt a k 0) (pos 10)) refl)
-  where
-    second : numberAt a k 0 ≡ pos 10 → isAnew (numberAt a k 0) 2 ≡ false
-    second q = unfold isAnew sameZ in rw q
-
-    go : (t : Bool) → sameZ (numberAt a k 0) (pos 10) ≡ t
-        → cond (sameZ (numberAt a k 0) (pos 4)) (pos 3) (cond (t && sameZ (numberAt a k 2) (pos 1)) (pos 12) (numberAt a k 0))
-        ≡ cond (sameZ (numberAt a k 0) (pos 4)) (pos 3) (cond (t && sameZ (numberAt b j 2) (pos 1)) (pos 12) (numberAt a k 0))
-    go true e = rw (x .same 2 (second (sameZ-true (numberAt a k 0) (pos 10) e)))
-    go false e = refl
-
--- the class of delay rows is theirs alone
-class-delay : (kind second : ℤ) → classOf kind second ≡ pos 6 → kind ≡ pos 6
-unfolding classOf
-class-delay kind second q = go (sameZ kind (pos 4)) (sameZ kind (pos 10) && sameZ second (pos 1)) q
-  where
-    go : (a b : Bool) → cond a (pos 3) (cond b (pos 12) kind) ≡ pos 6 → kind ≡ pos 6
-    go true b q = absurd (let z : 3 ≡ 6 = ap natAbs q in omega arith)
-    go false true q = absurd (let z : 12 ≡ 6 = ap natAbs q in omega arith)
-    go false false q = q
 
 delay-class : (kind second : ℤ) → kind ≡ pos 6 → classOf kind second ≡ pos 6
 unfolding classOf sameZ
@@ -71,7 +48,7 @@ module _ {rows : List ℤ} {count : ℕ} where
   not-delay : {target : Edition} {raster : ℕ} {x : List ℤ} {k : ℕ} → KeptRow target raster rows count x k → classAt x 0 ≡ pos 6 → ⊥
   unfolding classAt isKept sameZ
   not-delay {k = k} p c =
-      let z : numberAt rows k 0 ≡ pos 6 = class-delay (numberAt rows k 0) (numberAt rows k 2) (alike-class (p .alike) ∙ c) in
+      let z : numberAt rows k 0 ≡ pos 6 = class-only 6 (λ e. omega arith) (λ e. omega arith) (numberAt rows k 0) (numberAt rows k 2) (alike-class (p .alike) ∙ c) in
       true≢false (sym (rw z at (p .kept)))
 
   -- delay rows of two first uses

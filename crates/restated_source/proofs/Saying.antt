@@ -23,32 +23,29 @@ use Rattle.sayable.specs.Sayable.{isKind, nanosAt, isUnknown, hasTime, offMicro
 use Rattle.sayable.proofs.Saying.{in-13, in-14}
 use Rattle.durations.specs.Durations.{firstUse, usesIn, delayNumber}
 use Rattle.said.specs.Said.{stepsOf, durationOf}
+use Rattle.demands.proofs.Ruling.{or-none}
 use Rattle.restated_laws.proofs.SectionBack.{such-none-of, uses-most}
 use Rattle.restated_source.proofs.Listing.{CanSay}
-
-or-neither : (a b : Bool) → a || b ≡ false → (a ≡ false) × (b ≡ false)
-or-neither true b e = absurd (true≢false e)
-or-neither false b e = (refl, e)
 
 -- ---- Row by row
 module _ (target : Edition) (q s : Rasters) (rows : List ℤ) (n : ℕ) (said : unsayable target q s rows n ≡ false) where
   row-said : (k : ℕ) → k < n → (isUnknown rows k ≡ false) × (unsaidIn target q rows k ≡ false)
   unfolding unsayable anyUnsaid unsaid
-  row-said k h = or-neither (isUnknown rows k) (unsaidIn target q rows k) (such-none-of (unsaid target q rows) n (or-neither (anyUnsaid target q rows n) (differIn target q s) said .0) k h)
+  row-said k h = or-none (isUnknown rows k) (unsaidIn target q rows k) (such-none-of (unsaid target q rows) n (or-none (anyUnsaid target q rows n) (differIn target q s) said .0) k h)
 
   -- for 1.3.1
   rows-13 : target ≡ V13 → (k : ℕ) → k < n → (hasTime rows k ≡ false) × (offMicros rows k || namesOnce rows k ≡ false)
   unfolding unsaid13
-  rows-13 v k h = or-neither (hasTime rows k) (offMicros rows k || namesOnce rows k) (in-13 target q rows k v ∙ row-said k h .1)
+  rows-13 v k h = or-none (hasTime rows k) (offMicros rows k || namesOnce rows k) (in-13 target q rows k v ∙ row-said k h .1)
 
   pub no-times : target ≡ V13 → (k : ℕ) → k < n → hasTime rows k ≡ false
   no-times v k h = rows-13 v k h .0
 
   pub whole-micros : target ≡ V13 → (k : ℕ) → k < n → offMicros rows k ≡ false
-  whole-micros v k h = or-neither (offMicros rows k) (namesOnce rows k) (rows-13 v k h .1) .0
+  whole-micros v k h = or-none (offMicros rows k) (namesOnce rows k) (rows-13 v k h .1) .0
 
   not-once : target ≡ V13 → (k : ℕ) → k < n → namesOnce rows k ≡ false
-  not-once v k h = or-neither (offMicros rows k) (namesOnce rows k) (rows-13 v k h .1) .1
+  not-once v k h = or-none (offMicros rows k) (namesOnce rows k) (rows-13 v k h .1) .1
 
   pub can-say : CanSay target rows n
   can-say = record { known = λ k h. row-said k h .0; no-once = not-once }
@@ -56,7 +53,7 @@ module _ (target : Edition) (q s : Rasters) (rows : List ℤ) (n : ℕ) (said : 
   -- for 1.4.1
   rows-14 : target ≡ V14 → (k : ℕ) → k < n → (misalignedAt q rows k ≡ false) × (offRaster q rows k ≡ false)
   unfolding unsaid14
-  rows-14 v k h = or-neither (misalignedAt q rows k) (offRaster q rows k) (in-14 target q rows k v ∙ row-said k h .1)
+  rows-14 v k h = or-none (misalignedAt q rows k) (offRaster q rows k) (in-14 target q rows k v ∙ row-said k h .1)
 
   pub on-time : target ≡ V14 → (k : ℕ) → k < n → misalignedAt q rows k ≡ false
   on-time v k h = rows-14 v k h .0
