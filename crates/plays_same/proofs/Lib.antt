@@ -10,4 +10,5 @@ pub mod Shapes
 pub mod Lasting
 pub mod Replay
 pub mod Theorem
+pub mod Rooms
 pub mod Demand
