@@ -1,5 +1,5 @@
 -- Events, chains and blocks of tables that hold the same rows in another order last equally long. Assumes nothing.
-use Prim.Native.Nat.{ℕ, zero, suc, _+_, _*_, max, _≤_, _<_}
+use Prim.Native.Nat.{ℕ, zero, suc, _≤_, _<_}
 use mathlib.Core.Bool.{Bool, true, false, cond, not, _&&_, true≢false}
 use mathlib.Core.List.{List, [], _∷_}
 use mathlib.Core.Path.{_≡_, refl, sym, ap, subst, _∙_}
@@ -7,7 +7,7 @@ use native.Mathlib.Omega.{arith}
 use borrow.Author.Tests.{lt-ltb, le-ltb, eq-eqb, ne-eqb}
 use lib.Dec.{eqb, ltb}
 use lib.IntN.{ℤ, pos, natAbs}
-use lib.ListN.{length, getD, drop}
+use lib.ListN.{getD, drop}
 use Rattle.text.proofs.Cases.{and-both}
 use Rattle.signed.specs.Signed.{sameZ}
 use Rattle.signed.proofs.Sign.{sameZ-true}
@@ -15,12 +15,12 @@ use Rattle.unit.specs.declared.Rasters.{Rasters}
 use Rattle.shape.specs.declared.Edition.{Edition}
 use Rattle.columns.specs.Columns.{formNumber, extensionKind}
 use Rattle.columns.specs.declared.Form.the-variants.{Block, Rf as RfForm, Gradient as GradientForm, Trap as TrapForm, Adc as AdcForm, Delay as DelayForm, Entry as EntryForm, Trigger as TriggerForm}
-use Rattle.tables.specs.Tables.{numberAt, isRowOf, metRow, metNumber, samplesOf, classNumber}
+use Rattle.tables.specs.Tables.{numberAt, isRowOf, metRow, metNumber, classNumber}
 use Rattle.tables.specs.declared.Class.the-variants.{Entry, Extension, Trigger, Set, Increment}
 use Rattle.chains.specs.Chains.{nextEntry}
 use Rattle.references.specs.References.{blockRefs, codeRef, extensionRef, refAt, refOf}
-use Rattle.lengths.specs.Lengths.{microsAt, lastTime, stepsAt, shapedLength, trapLength, adcLength, lengthOf, lengthAt}
-use Rattle.blocks.specs.Blocks.{metLength, entryLength, chainLength, referenceLength, longestOf, numberLength}
+use Rattle.lengths.specs.Lengths.{microsAt, stepsAt, shapedLength, trapLength, adcLength, lengthOf, lengthAt}
+use Rattle.blocks.specs.Blocks.{metLength, entryLength, chainLength, referenceLength, numberLength}
 use Rattle.arranged.specs.Alike.{isAnew, Alike, Arranged}
 use Rattle.arranged.proofs.Lookup.{pos-other, alike-kind, Meets, neither, both, delays, met-meets, met-is, class-kind, met-second, SameSamples, samples-same}
 

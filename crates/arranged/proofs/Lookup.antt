@@ -2,8 +2,8 @@
 use Prim.Native.Nat.{ℕ, _≤_, _<_}
 use mathlib.Core.Bool.{Bool, true, false, cond, not, _&&_, _||_}
 use mathlib.Core.List.{List}
-use mathlib.Core.Logic.{_⊎_, inl, inr, ⊎-elim}
-use mathlib.Core.Path.{_≡_, refl, sym, ap, subst, _∙_}
+use mathlib.Core.Logic.{⊎-elim}
+use mathlib.Core.Path.{_≡_, refl, sym, ap, _∙_}
 use native.Mathlib.Omega.{arith}
 use borrow.Author.Tests.{lt-ltb, le-ltb}
 use lib.Dec.{eqb, ltb}
@@ -17,7 +17,7 @@ use Rattle.columns.specs.declared.Form.the-variants.{Block, Trap, Delay}
 use Rattle.tables.specs.declared.Class.the-variants.{Gradient, Increment}
 use Rattle.tables.specs.Tables.{numberAt, classNumber, classOf, classAt, isRowOf, firstRow, NoneAgain, metRow, metNumber, samplesAt, samplesOf}
 use Rattle.tables.proofs.Found.{first-is}
-use Rattle.arranged.specs.Alike.{isAnew, Alike, Stands, isKept, Arranged}
+use Rattle.arranged.specs.Alike.{isAnew, Alike, isKept, Arranged}
 
 -- ---- Numbers that are other
 pub pos-other : {x y : ℕ} → (x ≡ y → ⊥) → pos x ≡ pos y → ⊥

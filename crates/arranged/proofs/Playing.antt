@@ -1,25 +1,22 @@
 -- Tables that hold the same rows in another order play the same. Assumes nothing.
 use Prim.Native.Nat.{ℕ, zero, suc, _+_, _≤_, _<_}
 use mathlib.Core.Bool.{Bool, true, false, cond}
-use mathlib.Core.List.{List, [], _∷_}
-use mathlib.Core.Path.{_≡_, refl, sym, ap, subst, _∙_}
+use mathlib.Core.List.{List}
+use mathlib.Core.Path.{_≡_, refl, sym, ap, _∙_}
 use native.Mathlib.Omega.{arith}
 use borrow.Author.Tests.{lt-ltb, le-ltb}
 use lib.Dec.{ltb}
-use lib.IntN.{ℤ, pos, natAbs}
-use lib.ListN.{length}
+use lib.IntN.{ℤ, pos}
 use Rattle.signed.specs.Signed.{sameZ}
 use Rattle.signed.proofs.Sign.{sameZ-true}
 use Rattle.unit.specs.declared.Rasters.{Rasters}
 use Rattle.columns.specs.Columns.{formNumber}
 use Rattle.columns.specs.declared.Form.the-variants.{Block as BlockForm, Entry as EntryForm}
-use Rattle.tables.specs.Tables.{numberAt, classNumber, isRowOf, firstSuch, firstRow, metRow, samplesOf}
-use Rattle.tables.specs.declared.Class.the-variants.{Rf as RfClass, Gradient as GradientClass, Adc as AdcClass, Entry as EntryClass}
+use Rattle.tables.specs.Tables.{numberAt, classNumber, isRowOf, firstRow, metRow, samplesOf}
+use Rattle.tables.specs.declared.Class.the-variants.{Gradient as GradientClass, Entry as EntryClass}
 use Rattle.tables.proofs.Found.{first-is}
-use Rattle.chains.specs.Chains.{nextEntry}
 use Rattle.references.specs.References.{extensionRef}
-use Rattle.blocks.specs.Blocks.{isBlock}
-use Rattle.demands.specs.Playing.{Event, none, one, playedAt, timingOf, rfAt, gradientAt, adcAt, Extension, unknown, extensionOf, extensionAt, chainFrom, Block, blockAt, blocksFrom, playedOf}
+use Rattle.demands.specs.Playing.{none, one, playedAt, timingOf, rfAt, gradientAt, adcAt, Extension, unknown, extensionOf, extensionAt, chainFrom, blockAt, blocksFrom, playedOf}
 use Rattle.arranged.specs.Alike.{isAnew, Alike, Arranged, InOrder, no-more, a-block, not-here, not-there}
 use Rattle.arranged.proofs.Lookup.{pos-other, alike-kind, Meets, neither, both, delays, met-meets, met-is, class-kind, kind-keeps, class-keeps, SameSamples, samples-same}
 use Rattle.arranged.proofs.Lasting.{extension-other, extension-same, next-meets, entry-next}

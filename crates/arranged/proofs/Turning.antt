@@ -1,14 +1,12 @@
 -- Tables that hold the same rows in another order, one after another: what holds of two steps holds of both. Assumes nothing.
 use Prim.Native.Nat.{ℕ, zero, suc, _+_, _≤_, _<_}
-use mathlib.Core.Bool.{Bool, true, false, cond, not}
+use mathlib.Core.Bool.{Bool, true}
 use mathlib.Core.List.{List}
-use mathlib.Core.Path.{_≡_, refl, sym, ap, _∙_}
+use mathlib.Core.Path.{_≡_, refl, _∙_}
 use native.Mathlib.Omega.{arith}
-use lib.IntN.{ℤ, pos}
-use Rattle.signed.specs.Signed.{sameZ}
+use lib.IntN.{ℤ}
 use Rattle.tables.specs.Tables.{firstSuch, numberAt, classAt, isRowOf, firstRow, NoneAgain}
-use Rattle.blocks.specs.Blocks.{isBlock}
-use Rattle.arranged.specs.Alike.{isAnew, Alike, Stands, isKept, Arranged, InOrder, no-more, a-block, not-here, not-there}
+use Rattle.arranged.specs.Alike.{Alike, Stands, isKept, Arranged, InOrder, no-more, a-block, not-here, not-there}
 use Rattle.arranged.proofs.Lookup.{alike-kind, alike-id, alike-class, alike-row, alike-back}
 
 -- ---- Two steps

@@ -1,10 +1,8 @@
 -- The rows of a restated text, as reading lays them, are the source's in another order. Assumes nothing.
-use Prim.Native.Nat.{ℕ, suc, _*_, _/_, _^_, _≤_, _<_}
-use mathlib.Core.Bool.{true, false, _&&_}
+use Prim.Native.Nat.{ℕ, suc, _/_, _≤_, _<_}
+use mathlib.Core.Bool.{true}
 use mathlib.Core.List.{List}
-use mathlib.Core.Path.{_≡_, refl, sym, ap, subst, _∙_}
-use native.Mathlib.Omega.{arith}
-use lib.Dec.{eqb}
+use mathlib.Core.Path.{_≡_, sym, ap, subst}
 use lib.IntN.{ℤ, pos}
 use lib.ListN.{length, getD}
 use Rattle.shape.specs.declared.Edition.{Edition}
@@ -20,11 +18,10 @@ use Rattle.repeats.specs.Once.{RowTwice, Twice, by-row, by-word}
 use Rattle.sources.specs.Sources.{ownRasters}
 use Rattle.sayable.specs.Sayable.{nanosAt}
 use Rattle.shape.specs.declared.Edition.the-variants.{V13}
-use Rattle.demands.specs.Keeping.{Keeps, HasBlock}
+use Rattle.demands.specs.Keeping.{HasBlock}
 use Rattle.demands.specs.Refusing.{textIn}
 use Rattle.demands.proofs.Questions.{of-once, none-twice}
-use Rattle.arranged.specs.Alike.{isKept, Stands, Arranged, InOrder}
-use Rattle.restated_laws.proofs.TextBack.{delaysEnd}
+use Rattle.arranged.specs.Alike.{Stands, Arranged, InOrder}
 use Rattle.restated_source.proofs.Source.{source-rows, source-holds}
 use Rattle.restated_source.proofs.Saying.{no-times}
 use Rattle.restated_rows.proofs.Source.{Source}

@@ -1,21 +1,20 @@
 -- A restated text, read: where it ends, its rasters, its stored lines and its words. Assumes nothing.
-use Prim.Native.Nat.{ℕ, suc, _^_, _≤_, _<_}
+use Prim.Native.Nat.{ℕ, _≤_, _<_}
 use mathlib.Core.Bool.{true, false}
 use mathlib.Core.List.{List}
-use mathlib.Core.Path.{_≡_, refl, sym, ap, subst, _∙_}
-use native.Mathlib.Omega.{arith}
+use mathlib.Core.Path.{_≡_, sym, subst}
 use lib.IntN.{ℤ, pos}
 use lib.ListN.{length, getD}
 use Rattle.unit.specs.declared.Rasters.{Rasters}
 use Rattle.shape.specs.declared.Edition.{Edition}
-use Rattle.shape.specs.declared.Edition.the-variants.{V13, V14}
+use Rattle.shape.specs.declared.Edition.the-variants.{V14}
 use Rattle.shape_text.specs.Written.{storedText}
 use Rattle.columns.specs.Columns.{shapeKind}
 use Rattle.places.specs.declared.State.{State}
 use Rattle.file.specs.Whole.{verdictOf, ended}
 use Rattle.file.specs.Rows.{rowsOf, scannedOf}
 use Rattle.file_laws.proofs.Ending.{verdict-scanned}
-use Rattle.definitions.specs.Definitions.{siteFault, definitionsOf}
+use Rattle.definitions.specs.Definitions.{definitionsOf}
 use Rattle.rasters.specs.Rasters.{rastersOf}
 use Rattle.needs.specs.Needs.{siteRasters}
 use Rattle.stored.specs.Shapes.{storedOf}
@@ -31,8 +30,8 @@ use Rattle.demands.proofs.Exactly.{rows-hold}
 use Rattle.restated_laws.proofs.DefinedBack.{AllDefining, numbered}
 use Rattle.restated_laws.proofs.DefinedFound.{HasRasters, said-defining}
 use Rattle.restated_laws.proofs.DefinedSection.{saidDefinitions}
-use Rattle.restated_laws.proofs.TextBack.{Readable, ListedFrom, delaysEnd}
-use Rattle.restated_laws.proofs.WholeBack.{endState, restated-ends, restated-rows, restated-definitions}
+use Rattle.restated_laws.proofs.TextBack.{Readable, delaysEnd}
+use Rattle.restated_laws.proofs.WholeBack.{endState, restated-ends, restated-definitions}
 use Rattle.restated_source.proofs.Listing.{SomeListed}
 use Rattle.restated_source.proofs.Source.{source-verdict}
 use Rattle.restated_source.proofs.Readable.{readable, source-listed}

@@ -1,13 +1,12 @@
 -- Demand 3, of the definitions and of the functions `read` and `restate` by their contracts. Assumes nothing.
-use Prim.Native.Nat.{ℕ, _+_, _*_, _-_, _^_, min, _≤_, _<_}
+use Prim.Native.Nat.{ℕ, _-_, _^_, _≤_}
 use mathlib.Core.Bool.{Bool, true, false, cond, true≢false}
-use mathlib.Core.List.{List, _++_}
+use mathlib.Core.List.{List}
 use mathlib.Core.Path.{_≡_, refl, sym, ap, subst, _∙_}
 use native.Mathlib.Omega.{arith}
 use lib.IntN.{ℤ}
 use lib.ListN.{length, take}
 use lib.Seq.{take-append-seam}
-use Rattle.unit.specs.declared.Rasters.{Rasters}
 use Rattle.shape.specs.declared.Edition.{Edition}
 use Rattle.file.specs.Rows.{rowsOf, scannedOf}
 use Rattle.needs.specs.Needs.{siteRasters}
@@ -23,7 +22,6 @@ use Rattle.restater.specs.Restating.{restateOf, blankBytes, rowsAfter, samplesA
 use Rattle.restater.specs.declared.Restated.{Restated}
 use Rattle.restater.specs.declared.Restated.the-variants.{Text}
 use Rattle.demands.specs.Keeping.{SoundSite, Keeps}
-use Rattle.demands.specs.Playing.{playedOf}
 use Rattle.demands.specs.Refusing.{ListedOf, textIn, Outcome, site-at-fault, raster-missing, on-the-list, no-room, restated}
 use Rattle.demands.specs.Replaying.{isEdition, readBy, EnoughRoom, playedIn, PlaysSame, ThirdDemand, PlaysAgain}
 use Rattle.demands.proofs.Exactly.{accepted-keeps, accepted-site, keeps-accepted}

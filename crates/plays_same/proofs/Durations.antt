@@ -1,12 +1,11 @@
 -- What a target says of a block's duration lasts as long as the block did. Assumes nothing.
-use Prim.Native.Nat.{ℕ, _*_, _^_, min, _≤_, _<_}
-use mathlib.Core.Bool.{Bool, true, false, cond, _&&_, true≢false}
+use Prim.Native.Nat.{ℕ, _*_, _^_, min, _≤_}
+use mathlib.Core.Bool.{true, false, true≢false}
 use mathlib.Core.List.{List}
-use mathlib.Core.Path.{_≡_, refl, sym, ap, subst, _∙_}
+use mathlib.Core.Path.{_≡_, refl, sym}
 use native.Mathlib.Omega.{arith}
 use borrow.Author.Tests.{ltb-false}
-use lib.Dec.{ltb}
-use lib.IntN.{ℤ, pos, natAbs}
+use lib.IntN.{ℤ, natAbs}
 use Rattle.signed.specs.Signed.{largest}
 use Rattle.unit.specs.Time.{inMicros, onRaster}
 use Rattle.unit.specs.declared.InMicros.{InMicros}
@@ -15,13 +14,9 @@ use Rattle.unit.specs.declared.OnRaster.{OnRaster}
 use Rattle.unit.specs.declared.OnRaster.the-variants.{Steps, Off}
 use Rattle.unit.specs.declared.Rasters.{Rasters}
 use Rattle.unit.proofs.Exact.{micros-whole, steps-whole}
-use Rattle.shape.specs.declared.Edition.{Edition}
-use Rattle.shape.specs.declared.Edition.the-variants.{V13, V14}
-use Rattle.tables.specs.Tables.{numberAt}
+use Rattle.shape.specs.declared.Edition.the-variants.{V14}
 use Rattle.blocks.specs.Blocks.{isBlock}
-use Rattle.lengths.specs.Lengths.{countAt}
 use Rattle.sayable.specs.Sayable.{isKind, nanosAt, isBetween, offMicros, notSteps, offRaster}
-use Rattle.durations.specs.Durations.{delayNumber}
 use Rattle.said.specs.Said.{stepsOf, durationOf, durationNumber}
 use Rattle.section_text.specs.Sections.{wholeMicros, microsAt}
 

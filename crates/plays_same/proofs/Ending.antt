@@ -1,13 +1,13 @@
 -- Where a restated text ends, its edition is the target's, and for 1.4.1 it has its definitions. Assumes nothing.
-use Prim.Native.Nat.{ℕ, zero, suc, _≤_, _<_}
+use Prim.Native.Nat.{ℕ, zero, suc, _≤_}
 use mathlib.Core.Bool.{Bool, true, false, cond}
-use mathlib.Core.List.{List, []}
-use mathlib.Core.Path.{_≡_, refl, sym, ap, subst, _∙_}
+use mathlib.Core.List.{List}
+use mathlib.Core.Path.{_≡_, refl, sym, _∙_}
 use native.Mathlib.Omega.{arith}
 use borrow.Author.Tests.{lt-ltb}
 use lib.Dec.{ltb}
 use lib.IntN.{ℤ, pos, natAbs}
-use lib.ListN.{length, getD, replicate}
+use lib.ListN.{length, getD}
 use lib.Seq.{getD-set-other}
 use Rattle.shape.specs.declared.Edition.{Edition}
 use Rattle.shape.specs.declared.Edition.the-variants.{V13, V14}
@@ -16,7 +16,6 @@ use Rattle.columns.specs.declared.Form.{Form}
 use Rattle.columns.specs.declared.Form.the-variants.{Block, Rf, Gradient, Trap, Adc, Delay}
 use Rattle.tables.specs.Tables.{numberAt}
 use Rattle.sections.specs.Entering.{entered}
-use Rattle.places.specs.Places.{movedOf}
 use Rattle.places.specs.declared.Lines.the-variants.{Shapes, Rows, Definitions}
 use Rattle.places.specs.declared.Listed.{Listed}
 use Rattle.places.specs.declared.Place.{Place}

@@ -1,20 +1,19 @@
 -- Facts of rows and tables that the theorem goes by. Assumes nothing.
-use Prim.Native.Nat.{ℕ, _≤_, _<_}
-use mathlib.Core.Bool.{Bool, true, false, cond, _||_}
+use Prim.Native.Nat.{ℕ, _<_}
+use mathlib.Core.Bool.{true}
 use mathlib.Core.List.{List}
 use mathlib.Core.Path.{_≡_, refl, sym, ap, _∙_}
 use native.Mathlib.Omega.{arith}
-use lib.IntN.{ℤ, pos, natAbs}
+use lib.IntN.{ℤ, pos}
 use lib.ListN.{getD}
 use Rattle.text.proofs.Cases.{and-both}
 use Rattle.signed.specs.Signed.{sameZ}
-use Rattle.signed.proofs.Sign.{sameZ-refl, sameZ-true}
+use Rattle.signed.proofs.Sign.{sameZ-true}
 use Rattle.unit.specs.declared.Rasters.{Rasters}
 use Rattle.shape.specs.declared.Edition.{Edition}
 use Rattle.columns.specs.Columns.{formNumber}
 use Rattle.columns.specs.declared.Form.{Form}
 use Rattle.columns.specs.declared.Form.the-variants.{Block, Rf, Gradient, Trap, Adc, Delay, Entry, Trigger}
-use Rattle.columns.proofs.Widths.{room-all}
 use Rattle.tables.specs.Tables.{numberAt, classAt, isRowOf, firstRow, NoneAgain, OnlyRow}
 use Rattle.tables.proofs.Found.{found-only}
 use Rattle.events.specs.Align.{microsOff, trapOff, misalignedAt}

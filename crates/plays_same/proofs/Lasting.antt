@@ -1,9 +1,9 @@
 -- The blocks of a restated text last as long as they did. Assumes nothing.
 use Prim.Native.Nat.{ℕ, _*_, _/_, min, _≤_, _<_}
-use mathlib.Core.Bool.{true, false, _&&_}
+use mathlib.Core.Bool.{true}
 use mathlib.Core.List.{List}
 use mathlib.Core.Logic.{⊎-elim}
-use mathlib.Core.Path.{_≡_, refl, sym, ap, subst, _∙_}
+use mathlib.Core.Path.{_≡_, refl, sym, ap, _∙_}
 use native.Mathlib.Omega.{arith}
 use lib.IntN.{ℤ, pos, natAbs}
 use lib.ListN.{length}
@@ -21,7 +21,7 @@ use Rattle.file.specs.Rows.{rowsOf}
 use Rattle.rasters.specs.Rasters.{rastersOf}
 use Rattle.needs.specs.Needs.{siteRasters}
 use Rattle.blocks.specs.Blocks.{blockLength, isBlock}
-use Rattle.lengths.specs.Lengths.{countAt, microsAt}
+use Rattle.lengths.specs.Lengths.{microsAt}
 use Rattle.sayable.specs.Sayable.{nanosAt}
 use Rattle.durations.specs.Durations.{delayNumber}
 use Rattle.durations.proofs.Using.{number-zero}
@@ -34,7 +34,6 @@ use Rattle.arranged.proofs.Lookup.{alike-kind, alike-back, delays}
 use Rattle.arranged.proofs.Turning.{alike-then}
 use Rattle.arranged.proofs.Blocks.{Lasts, by-steps, by-none, by-delay}
 use Rattle.restated_source.proofs.Saying.{whole-micros, on-raster, delay-few}
-use Rattle.restated_rows.proofs.Arranged.{BlockFrom, DelayStands}
 use Rattle.plays_same.proofs.Tables.{full-length}
 use Rattle.plays_same.proofs.Facts.{alike-once, row-only}
 use Rattle.plays_same.proofs.Durations.{steps-said, micros-said}

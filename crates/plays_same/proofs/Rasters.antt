@@ -1,11 +1,11 @@
 -- The rasters of a restated text are those that its source went by. Assumes nothing.
 use Prim.Native.Nat.{ℕ, suc, _≤_, _<_}
-use mathlib.Core.Bool.{Bool, true, false, cond, _||_, true≢false}
+use mathlib.Core.Bool.{Bool, true, false, cond}
 use mathlib.Core.List.{List, [], _∷_, _++_, append-nil}
 use mathlib.Core.Path.{_≡_, refl, sym, ap, subst, _∙_}
 use mathlib.Core.Logic.{⊎-elim}
 use native.Mathlib.Omega.{arith}
-use borrow.Author.Tests.{eqb-true, eq-eqb, ne-eqb}
+use borrow.Author.Tests.{eqb-true, ne-eqb}
 use lib.Dec.{eqb}
 use lib.ListN.{length}
 use Rattle.text.proofs.Cases.{lt-or-ge}
@@ -18,8 +18,7 @@ use Rattle.shape.specs.declared.Edition.{Edition}
 use Rattle.shape.specs.declared.Edition.the-variants.{V13, V14}
 use Rattle.definitions.specs.Definitions.{Definition, definitionsOf, siteDefinitions, sought, eitherOf, definitionOf}
 use Rattle.rasters.specs.Rasters.{gradientKey, rfKey, adcKey, blockKey, wholeOr0, worthOf, rasterOf, textOf, rastersOf, lacks}
-use Rattle.needs.specs.Needs.{siteRasters, besides, lacksFor}
-use Rattle.sources.specs.Sources.{editionIn, ownRasters, lacksRasters}
+use Rattle.needs.specs.Needs.{besides, lacksFor}
 use Rattle.demands.specs.Keeping.{RastersGood}
 use Rattle.demands.proofs.Ruling.{or-none, editions-differ}
 use Rattle.demands.proofs.Questions.{rasters-of}

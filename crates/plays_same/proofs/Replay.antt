@@ -1,16 +1,15 @@
 -- A restated text keeps to the target's rules, and so is accepted; and it plays the same. Assumes nothing.
-use Prim.Native.Nat.{ℕ, _+_, _*_, _/_, _^_, _≤_, _<_}
+use Prim.Native.Nat.{ℕ, _/_, _^_, _≤_, _<_}
 use mathlib.Core.Bool.{true, false}
 use mathlib.Core.List.{List}
-use mathlib.Core.Path.{_≡_, refl, sym, ap, subst, _∙_}
+use mathlib.Core.Path.{_≡_, sym, ap, subst, _∙_}
 use native.Mathlib.Omega.{arith}
-use lib.IntN.{ℤ, pos, natAbs}
+use lib.IntN.{ℤ, pos}
 use lib.ListN.{length, getD}
 use Rattle.signed.specs.Signed.{sameZ}
-use Rattle.signed.proofs.Sign.{sameZ-true}
 use Rattle.unit.specs.declared.Rasters.{Rasters}
 use Rattle.shape.specs.declared.Edition.{Edition}
-use Rattle.shape.specs.declared.Edition.the-variants.{V13, V14}
+use Rattle.shape.specs.declared.Edition.the-variants.{V14}
 use Rattle.columns.specs.Columns.{formNumber}
 use Rattle.columns.specs.Rows.{rowWidth}
 use Rattle.columns.specs.declared.Form.the-variants.{Block}
@@ -22,10 +21,9 @@ use Rattle.file_tables.proofs.Whole.{rows-twelve, rows-held}
 use Rattle.file_laws.proofs.Stacking.{rows-stacked}
 use Rattle.rasters.specs.Rasters.{rastersOf}
 use Rattle.needs.specs.Needs.{siteRasters}
-use Rattle.blocks.specs.Blocks.{isBlock}
 use Rattle.events.specs.Align.{misalignedAt}
-use Rattle.sampling.specs.Sampling.{Apart, isShapeRow, firstFailing}
-use Rattle.reader.specs.Reading.{zeros, rowsLaid, samplesLaid, rowsOut, samplesOut}
+use Rattle.sampling.specs.Sampling.{isShapeRow, firstFailing}
+use Rattle.reader.specs.Reading.{zeros, rowsLaid, samplesLaid, rowsOut}
 use Rattle.sources.specs.Sources.{ownRasters}
 use Rattle.demands.specs.Rules.{Aligned, Follows}
 use Rattle.demands.specs.Keeping.{HasBlock, sampleSum, RastersGood, Expands, SamplesHeld, Keeps}

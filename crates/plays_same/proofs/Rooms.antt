@@ -1,11 +1,11 @@
 -- "Enough table room" exists for every text: the least of it, and that it is never more than a machine can lend. Assumes nothing.
-use Prim.Native.Nat.{ℕ, suc, _+_, _*_, _^_, _≤_}
-use mathlib.Core.Bool.{Bool, true, false, cond}
+use Prim.Native.Nat.{ℕ, _*_, _^_, _≤_}
+use mathlib.Core.Bool.{false}
 use mathlib.Core.List.{List, [], _∷_}
-use mathlib.Core.Path.{_≡_, refl, sym, ap, subst, _∙_}
+use mathlib.Core.Path.{_≡_, refl, ap}
 use native.Mathlib.Omega.{arith}
 use lib.IntN.{ℤ, pos, natAbs}
-use lib.ListN.{length, getD}
+use lib.ListN.{length}
 use Rattle.signed.specs.Signed.{sameZ}
 use Rattle.shape.specs.declared.Edition.{Edition}
 use Rattle.columns.specs.Columns.{formNumber, shapeKind}
@@ -14,9 +14,9 @@ use Rattle.columns.specs.declared.Form.{Form}
 use Rattle.columns.specs.declared.Form.the-variants.{Block, Rf, Gradient, Trap, Adc, Delay, Entry, Trigger}
 use Rattle.places.specs.declared.State.{State}
 use Rattle.file.specs.Whole.{verdictOf, ended}
-use Rattle.file.specs.Rows.{Placed, rowsOf}
+use Rattle.file.specs.Rows.{Placed}
 use Rattle.file_laws.specs.Ranges.{RowIn, by-columns, extension, label, shape, AllIn, no-rows, one-more}
-use Rattle.file_laws.specs.Stacked.{isShapeOf, shapeCount}
+use Rattle.file_laws.specs.Stacked.{shapeCount}
 use Rattle.file_laws.proofs.Padded.{own-number}
 use Rattle.file_laws.proofs.Ranges.{rows-in-range}
 use Rattle.demands.specs.Keeping.{sampleSum}

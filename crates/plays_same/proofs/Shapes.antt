@@ -1,17 +1,15 @@
 -- The shapes of a restated text expand to the samples that they had. Assumes nothing.
-use Prim.Native.Nat.{ℕ, suc, _*_, _/_, _^_, _≤_, _<_}
-use mathlib.Core.Bool.{true, false}
+use Prim.Native.Nat.{ℕ, _/_, _≤_, _<_}
+use mathlib.Core.Bool.{true}
 use mathlib.Core.List.{List}
-use mathlib.Core.Path.{_≡_, refl, sym, ap, subst, _∙_}
+use mathlib.Core.Path.{_≡_, sym, ap, _∙_}
 use native.Mathlib.Omega.{arith}
 use lib.IntN.{ℤ, pos, natAbs}
-use lib.ListN.{length, getD, take, drop}
+use lib.ListN.{length}
 use Rattle.signed.specs.Signed.{sameZ}
 use Rattle.signed.proofs.Sign.{sameZ-refl, sameZ-true}
 use Rattle.shape.specs.declared.Edition.{Edition}
-use Rattle.shape.specs.declared.Expanded.the-variants.{Samples}
 use Rattle.shape_text.specs.Written.{storedText, allWithin}
-use Rattle.expanding.specs.Alone.{expandedOf, tableOf}
 use Rattle.columns.specs.Columns.{shapeKind}
 use Rattle.columns.specs.Rows.{rowWidth}
 use Rattle.tables.specs.Tables.{numberAt, samplesAt}
@@ -21,13 +19,12 @@ use Rattle.sampling.proofs.Failing.{table-length}
 use Rattle.stored.specs.Shapes.{storedOf}
 use Rattle.sayable.specs.Sayable.{isKind}
 use Rattle.reader.specs.Reading.{zeros, rowsLaid, rowsOut, samplesOut}
-use Rattle.demands.specs.Keeping.{Keeps, Expands, SamplesHeld}
+use Rattle.demands.specs.Keeping.{Expands, SamplesHeld}
 use Rattle.demands.specs.Refusing.{textIn}
-use Rattle.arranged.specs.Alike.{isAnew, Alike, isKept, Stands}
+use Rattle.arranged.specs.Alike.{isAnew, Alike}
 use Rattle.arranged.proofs.Lookup.{alike-kind, alike-id, alike-back, SameSamples}
 use Rattle.arranged.proofs.Turning.{alike-then}
 use Rattle.arranged.proofs.Following.{row-there}
-use Rattle.restated_source.proofs.Held.{not-block}
 use Rattle.restated_shapes.proofs.Expanding.{expands-back, samples-back}
 use Rattle.plays_same.proofs.Tables.{full-alike, full-samples}
 use Rattle.plays_same.proofs.Facts.{alike-once}

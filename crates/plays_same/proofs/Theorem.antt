@@ -1,7 +1,7 @@
 -- "A file accepted with one site's definitions, restated to a target edition and read by the target's rules alone with those definitions and enough
 -- table room, is accepted and plays the same." Assumes nothing.
-use Prim.Native.Nat.{ℕ, _+_, _*_, _/_, _^_, min, _≤_, _<_}
-use mathlib.Core.Bool.{Bool, true, false, true≢false}
+use Prim.Native.Nat.{ℕ, _*_, _/_, _^_, _≤_, _<_}
+use mathlib.Core.Bool.{true}
 use mathlib.Core.List.{List}
 use mathlib.Core.Path.{_≡_, refl, sym, ap, subst, _∙_}
 use native.Mathlib.Omega.{arith}
@@ -10,23 +10,22 @@ use lib.ListN.{length}
 use Rattle.unit.specs.declared.Rasters.{Rasters}
 use Rattle.shape.specs.declared.Edition.{Edition}
 use Rattle.shape.specs.declared.Edition.the-variants.{V13, V14}
-use Rattle.columns.specs.Columns.{formNumber, shapeKind}
+use Rattle.columns.specs.Columns.{formNumber}
 use Rattle.columns.specs.Rows.{rowWidth}
 use Rattle.columns.specs.declared.Form.the-variants.{Block}
-use Rattle.tables.specs.Tables.{numberAt, samplesAt}
+use Rattle.tables.specs.Tables.{numberAt}
 use Rattle.file.specs.Rows.{rowsOf, scannedOf}
 use Rattle.file_laws.proofs.Ending.{verdict-scanned}
 use Rattle.rasters.specs.Rasters.{rastersOf}
 use Rattle.blocks.specs.Blocks.{blockLength}
 use Rattle.answers.specs.declared.Answer.the-variants.{Accepted}
-use Rattle.reader.specs.Reading.{zeros, rowsLaid, readOf, rowsOut, samplesOut}
+use Rattle.reader.specs.Reading.{zeros, rowsLaid, rowsOut, samplesOut}
 use Rattle.sources.specs.Sources.{editionIn, ownRasters}
 use Rattle.demands.specs.Keeping.{sampleSum, SamplesHeld, Keeps}
-use Rattle.demands.specs.Playing.{playedOf}
 use Rattle.demands.specs.Refusing.{textIn}
 use Rattle.demands.specs.Replaying.{isEdition, readBy, rowsRoom, samplesRoom, EnoughRoom, playedIn, PlaysSame}
 use Rattle.demands.proofs.Exactly.{keeps-accepted}
-use Rattle.arranged.specs.Alike.{Alike, Arranged, InOrder}
+use Rattle.arranged.specs.Alike.{Alike, Arranged}
 use Rattle.arranged.proofs.Lookup.{alike-kind, alike-back, SameSamples}
 use Rattle.arranged.proofs.Turning.{alike-then, arranged-then, order-then}
 use Rattle.arranged.proofs.Following.{moved-length}

@@ -1,12 +1,11 @@
 -- No row of a restated text is met again in its class, where none of the source is. Assumes nothing.
 use Prim.Native.Nat.{ℕ, suc, _<_}
-use mathlib.Core.Bool.{Bool, true, false, cond, _&&_, true≢false}
+use mathlib.Core.Bool.{true, false, true≢false}
 use mathlib.Core.List.{List}
 use mathlib.Core.Path.{_≡_, refl, sym, ap, _∙_}
 use native.Mathlib.Omega.{arith}
 use lib.IntN.{ℤ, pos, natAbs}
 use Rattle.signed.specs.Signed.{sameZ}
-use Rattle.signed.proofs.Sign.{sameZ-true}
 use Rattle.shape.specs.declared.Edition.{Edition}
 use Rattle.tables.specs.Tables.{numberAt, classOf, classAt, firstRow, NoneAgain}
 use Rattle.places.specs.declared.State.{State}

@@ -1,6 +1,6 @@
 -- What is not UNSAYABLE of a table: known extensions, no ONCE in 1.3.1, and durations that the target has numbers for. Assumes nothing.
 use Prim.Native.Nat.{ℕ, suc, min, _^_, _≤_, _<_}
-use mathlib.Core.Bool.{Bool, true, false, cond, _||_, true≢false}
+use mathlib.Core.Bool.{Bool, true, false, cond, _||_}
 use mathlib.Core.List.{List}
 use mathlib.Core.Path.{_≡_, refl, _∙_}
 use native.Mathlib.Omega.{arith}
