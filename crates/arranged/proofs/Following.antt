@@ -18,7 +18,7 @@ use Rattle.shape.specs.declared.Edition.{Edition}
 use Rattle.shape.specs.declared.Edition.the-variants.{V14}
 use Rattle.columns.specs.Columns.{formNumber, shapeKind}
 use Rattle.columns.specs.Rows.{rowWidth}
-use Rattle.columns.specs.declared.Form.the-variants.{Block, Rf, Gradient, Trap, Adc, Entry}
+use Rattle.columns.specs.declared.Form.the-variants.{Block, Rf, Gradient, Trap, Adc, Entry, Delay}
 use Rattle.tables.specs.Tables.{numberAt, classNumber, isRowOf, firstRow, metRow, OnlyRow, samplesOf}
 use Rattle.tables.specs.declared.Class.the-variants.{Extension, Entry as EntryClass}
 use Rattle.tables.proofs.Found.{found-only}
@@ -34,7 +34,7 @@ use Rattle.arranged.proofs.Lasting.{either-way, kept-number, lists-none
 use Rattle.arranged.proofs.Blocks.{Lasts, by-steps, by-none, by-delay, only-first, event-within, block-same}
 
 -- ---- A row of a kind other than a delay's stands in the other table too
-pub row-there : {a b : List ℤ} {n m : ℕ} → Arranged a n b m → (j : ℕ) → j < m → (kind : ℕ) → (kind ≡ 6 → ⊥) → numberAt b j 0 ≡ pos kind → Stands b j a n
+pub row-there : {a b : List ℤ} {n m : ℕ} → Arranged a n b m → (j : ℕ) → j < m → (kind : ℕ) → (kind ≡ formNumber Delay → ⊥) → numberAt b j 0 ≡ pos kind → Stands b j a n
 unfolding isKept
 row-there {b = b} x j h kind other i = x .back j h (rw (differs (numberAt b j 0) delays (λ (e : numberAt b j 0 ≡ delays). other (ap natAbs (sym i ∙ e)))))
 
