@@ -2,6 +2,8 @@
 pub mod Lines
 pub mod Seeking
 pub mod Naming
+pub mod Left
+pub mod Beyond
 pub mod Rising
 pub mod First
 pub mod Again

@@ -4,8 +4,10 @@ ghost use Prim.Native.Nat.{_+_, _≤_};
 ghost use lib.ListN.{drop};
 ghost use Rattle.text.specs.Lines.{linesOf};
 ghost use Rattle.duplicates.specs.Words.{rowNames, onceOf, wordOf, sortNumber, wordsFrom, wordsOf, nextLine, earlier, againLine, duplicateLine};
-ghost use Rattle.duplicates.specs.Inside.{namesWord, nextOf};
+ghost use Rattle.duplicates.specs.Inside.{namesWord, nextOf, sectionWith, linesSection, wordSection, isLeft};
 use places::Found;
+use places::Lines;
+use places::Place;
 use places::State;
 use places::Stepped;
 
@@ -80,7 +82,56 @@ fn names(line: &[u8], did: Stepped, sort: Sort, word: &[u8]) -> bool
     }
 }
 
-// The first line from a place on that names the word; 0 if none does.
+// The section in which words of this sort stand: DEFINITIONS, or EXTENSIONS.
+fn section_with(sort: Sort) -> usize
+    ensures { λ r. ⌜ r ≡ sectionWith sort ⌝ }
+{
+    match sort {
+        Sort::Key => 2,
+        Sort::Name => 8,
+    }
+}
+
+// The section of words that has these lines; 0 if none has.
+fn lines_section(lines: Lines) -> usize
+    ensures { λ r. ⌜ r ≡ linesSection lines ⌝ }
+{
+    match lines {
+        Lines::None => 0,
+        Lines::Definitions => 2,
+        Lines::Rows(_) => 0,
+        Lines::Shapes => 0,
+    }
+}
+
+// The section of words that has this place; 0 if none has.
+fn word_section(place: Place) -> usize
+    ensures { λ r. ⌜ r ≡ wordSection place ⌝ }
+{
+    match place {
+        Place::Start => 0,
+        Place::Version(_) => 0,
+        Place::Section(lines) => lines_section(lines),
+        Place::Extensions(_) => 8,
+        Place::Head(_, _) => 0,
+        Place::Values => 0,
+        Place::Signature => 0,
+    }
+}
+
+// Was the section in which words of this sort stand met and left? A section is met once, so no such word is further on.
+fn is_left(st: State, sort: Sort) -> bool
+    ensures { λ r. ⌜ r ≡ isLeft st sort ⌝ }
+{
+    let own = section_with(sort);
+    let place = st.place;
+    if word_section(place) == own {
+        return false;
+    }
+    st.seen[own]
+}
+
+// The first line from a place on that names the word; 0 if none does. Nothing is read behind the section of such words.
 fn line_naming(
     file: &[u8],
     from: usize,
@@ -96,6 +147,9 @@ fn line_naming(
     let mut at = from;
     let mut n = number;
     while at < file.len() {
+        if is_left(st, sort) {
+            return 0;
+        }
         let line = text::next_line(file, at);
         let stop = line.stop;
         let did = grammar::step(st, n, &file[at..stop]);
