@@ -8,14 +8,17 @@ use lib.ListN.{length}
 use lib.Seq.{sets}
 use Rattle.expanding.specs.Alone.{expandedOf, tableOf}
 use Rattle.shape.specs.declared.Edition.{Edition}
-use Rattle.sampling.specs.Sampling.{textAt, numAt, fromAt, roomAt, failed, failsAt, laidAt}
+use Rattle.stored.specs.Inside.{Walked}
+use Rattle.sampling.specs.declared.Turned.{Turned}
+use Rattle.sampling.specs.Sampling.{numAt, fromAt, roomAt, failed, failsAt, laidAt}
 
--- the shape of row k, laid over the lent samples l
-pub record ShapeSampled (edition : Edition) (file : List ℕ) (rows : List ℤ) (k : ℕ) (l : List ℤ) (r : Bool) (l′ : List ℤ) : Type 0 where
-  pub answer : r ≡ failed (expandedOf edition (numAt rows k) (textAt file rows k) (roomAt rows (length l) k))
-  pub samples : l′ ≡ sets l (fromAt rows (length l) k) (tableOf edition (numAt rows k) (textAt file rows k) (roomAt rows (length l) k))
+-- the shape of row k, whose stored lines these are, laid over the lent samples l
+pub record ShapeSampled (edition : Edition) (text : List ℕ) (rows : List ℤ) (k : ℕ) (l : List ℤ) (r : Bool) (l′ : List ℤ) : Type 0 where
+  pub answer : r ≡ failed (expandedOf edition (numAt rows k) text (roomAt rows (length l) k))
+  pub samples : l′ ≡ sets l (fromAt rows (length l) k) (tableOf edition (numAt rows k) text (roomAt rows (length l) k))
 
--- row k, whatever it is
-pub record RowSampled (edition : Edition) (file : List ℕ) (rows : List ℤ) (k : ℕ) (l : List ℤ) (r : Bool) (l′ : List ℤ) : Type 0 where
-  pub answer : r ≡ failsAt edition file rows (length l) k
+-- row k, whatever it is, and the walk behind it
+pub record RowSampled (edition : Edition) (file : List ℕ) (rows : List ℤ) (k : ℕ) (l : List ℤ) (r : Turned) (l′ : List ℤ) : Type 0 where
+  pub answer : r .failed ≡ failsAt edition file rows (length l) k
   pub samples : l′ ≡ laidAt edition file rows (length l) k l
+  pub walked : Walked file (r .walk)

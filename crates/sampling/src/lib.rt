@@ -2,11 +2,19 @@
 ghost use mathlib.Core.Path.{_≡_};
 ghost use Prim.Native.Nat.{min};
 ghost use lib.IntN.{natAbs};
+ghost use Rattle.stored.specs.Inside.{Walked};
 ghost use Rattle.tables.specs.Tables.{numberAt};
 ghost use Rattle.sampling.specs.Sampling.{failed, Sampled};
 ghost use Rattle.sampling.specs.Inside.{ShapeSampled, RowSampled};
 use shape::Edition;
 use shape::Expanded;
+use stored::Walk;
+
+// Has a row failed, and where the walk to its stored lines stands.
+struct Turned {
+    failed: bool,
+    walk: Walk,
+}
 
 // The smaller of two.
 fn least(a: usize, b: usize) -> usize
@@ -37,25 +45,50 @@ fn has_failed(expanded: Expanded) -> bool
     }
 }
 
-// Expands the shape of row k into its part of the lent samples. Has it failed?
-fn expand_shape(file: &[u8], edition: Edition, rows: &[i64], k: usize, samples: &mut [i64]) -> bool
-    ensures { λ r. ⌜ ShapeSampled edition (now (file .entry)) (now (rows .entry)) k (now (samples .entry)) r (now (samples .exit)) ⌝ }
+// Expands the shape of row k, whose stored lines these are, into its part of the lent samples. Has it failed?
+fn expand_shape(
+    stored: &[u8],
+    edition: Edition,
+    rows: &[i64],
+    k: usize,
+    samples: &mut [i64],
+) -> bool
+    ensures { λ r. ⌜ ShapeSampled edition (now (stored .entry)) (now (rows .entry)) k (now (samples .entry)) r (now (samples .exit)) ⌝ }
 {
-    let stored = stored::stored_lines(file, tables::number(rows, k, 1));
     let num = size_at(rows, k, 2);
     let from = least(size_at(rows, k, 3), samples.len());
     let to = from + least(num, samples.len() - from);
     has_failed(expanding::expand(stored, num, edition, &mut samples[from..to]))
 }
 
-// Expands row k, if it is a shape. Has it failed?
-fn expand_row(file: &[u8], edition: Edition, rows: &[i64], k: usize, samples: &mut [i64]) -> bool
+// Expands row k, if it is a shape: its stored lines are sought from where the walk stands.
+fn expand_row(
+    file: &[u8],
+    walk: Walk,
+    edition: Edition,
+    rows: &[i64],
+    k: usize,
+    samples: &mut [i64],
+) -> Turned
+    requires { ⌜ Walked (now file) walk ⌝ }
     ensures { λ r. ⌜ RowSampled edition (now (file .entry)) (now (rows .entry)) k (now (samples .entry)) r (now (samples .exit)) ⌝ }
 {
     if signed::same(tables::number(rows, k, 0), 11) {
-        return expand_shape(file, edition, rows, k, samples);
+        let sought = stored::stored_next(file, walk, tables::number(rows, k, 1));
+        let part = sought.part;
+        let start = part.start;
+        let stop = part.stop;
+        let failed = expand_shape(&file[start..stop], edition, rows, k, samples);
+        let behind = sought.walk;
+        return Turned {
+            failed,
+            walk: behind,
+        };
     }
-    false
+    Turned {
+        failed: false,
+        walk,
+    }
 }
 
 // Expands the shapes of n rows, each at its place among the lent samples, up to the first that fails; answers its row, n if none fails.
@@ -68,11 +101,15 @@ pub fn expand_shapes(
 ) -> usize
     ensures { λ r. ⌜ Sampled edition (now (file .entry)) (now (rows .entry)) n (now (samples .entry)) r (now (samples .exit)) ⌝ }
 {
+    let mut walk = stored::walk_start();
     let mut k: usize = 0;
     while k < n {
-        if expand_row(file, edition, rows, k, samples) {
+        let turned = expand_row(file, walk, edition, rows, k, samples);
+        if turned.failed {
             return k;
         }
+        let behind = turned.walk;
+        walk = behind;
         k += 1;
     }
     n

@@ -1,2 +1,4 @@
--- The laws of the stored lines of a shape.
+-- The laws of the stored lines of a shape, and of a walk from shape to shape.
 pub mod Stored
+pub mod Seeking
+pub mod Walking

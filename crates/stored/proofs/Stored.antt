@@ -3,7 +3,6 @@ use Prim.Native.Nat.{ℕ, suc, _+_, _-_, _≤_}
 use mathlib.Core.Bool.{Bool, true, false, cond}
 use mathlib.Core.List.{List, [], _∷_, _++_, append-assoc}
 use mathlib.Core.Path.{_≡_, refl, sym, ap, _∙_}
-use native.Mathlib.Numerals.{add-one}
 use native.Mathlib.Omega.{arith}
 use lib.Dec.{eqb}
 use lib.IntN.{ℤ, pos}
@@ -13,7 +12,7 @@ use Rattle.text.specs.Lines.{wholeLinesOf, bareOf, onto}
 use Rattle.text.specs.Marks.{markOf}
 use Rattle.text.specs.declared.Line.{Line}
 use Rattle.fields.specs.declared.Part.{Part}
-use Rattle.text.proofs.Cut.{LineAt, WholeAt}
+use Rattle.text.proofs.Cut.{WholeAt}
 use Rattle.signed.specs.Signed.{sameZ}
 use Rattle.places.specs.Places.{fresh}
 use Rattle.grammar.specs.Parts.{noPart}
@@ -25,7 +24,6 @@ use Rattle.file.specs.Whole.{isFault, rowCount}
 use Rattle.stored.specs.Shapes.{endsShape, valuesText, isShape, storedFrom, storedOf}
 use Rattle.stored.specs.Places.{valuesPart, storedPlaceFrom, storedPlace}
 use Rattle.file.proofs.Laying.{row-zero, row-some}
-use Rattle.file.proofs.Walking.{Within, within-start, within-turn}
 
 -- ---- the row of a shape
 module _ (id : ℤ) (s : Stepped) (count : ℕ) (p : count ≡ rowCount (s .found)) where
@@ -103,34 +101,6 @@ module _ (file : List ℕ) (at : ℕ) (r : Line) (w : WholeAt file at r) where
 pub stored-none : (file : List ℕ) (at : ℕ) → length file ≤ at → 0 ≡ storedLen (drop at file)
 unfolding valuesText wholeLinesOf
 stored-none file at h = rw (drop-of-length-le file h)
-
--- ---- the loop to the shape
-pub record ShapeWalk (file : List ℕ) (id : ℤ) (st : State) (at n : ℕ) : Type 0 where
-  pub within : Within file at n
-  pub same : storedPlaceFrom id st n at (wholeLinesOf (drop at file)) ≡ storedPlace file id
-
-pub shape-start : (file : List ℕ) (id : ℤ) (st : State) → st ≡ fresh → ShapeWalk file id st 0 1
-unfolding storedPlace
-shape-start file id st e = record { within = within-start file; same = rw e }
-
-module _ (file : List ℕ) (id : ℤ) (st : State) (at n : ℕ) (k : ShapeWalk file id st at n) where
-  module _ (r : Line) (l : LineAt file at r) (w : WholeAt file at r) (s : Stepped) (p : s ≡ stepOf st n (take (r .stop - at) (drop at file))) where
-    pub shape-fault : isFault (s .found) ≡ true → noPart ≡ storedPlace file id
-    unfolding storedPlaceFrom
-    shape-fault e = rw (w .whole, w .bare, ← p, e) at (k .same)
-
-    module _ (e : isFault (s .found) ≡ false) where
-      pub shape-hit : isShape id s ≡ true → (stop : ℕ) → stop ≡ r .next + storedLen (drop (r .next) file) → record { start = r .next; stop = stop } ≡ storedPlace file id
-      unfolding storedPlaceFrom valuesPart
-      shape-hit f stop q = rw q (rw (w .whole, w .bare, ← p, e, f, whole-ends l) at (k .same))
-
-      pub shape-turn : isShape id s ≡ false → ShapeWalk file id (s .next) (r .next) (n + 1)
-      unfolding storedPlaceFrom
-      shape-turn f = record { within = within-turn (k .within) l; same = rw (add-one n) (rw (w .whole, w .bare, ← p, e, f, whole-ends l) at (k .same)) }
-
-  pub shape-end : length file ≤ at → noPart ≡ storedPlace file id
-  unfolding storedPlaceFrom wholeLinesOf
-  shape-end h = rw (drop-of-length-le file h) at (k .same)
 
 -- ---- the bytes there are the stored lines
 values-hold : (file : List ℕ) (from : ℕ) → from ≤ length file → Holds file (valuesPart from (wholeLinesOf (drop from file))) (valuesText (wholeLinesOf (drop from file)))

@@ -1,14 +1,30 @@
 // The stored lines of the shapes of a file, as parts of its text, and where they stand.
 ghost use mathlib.Core.Path.{_≡_};
-ghost use Prim.Native.Nat.{_+_};
+ghost use Prim.Native.Nat.{_+_, _≤_};
 ghost use lib.ListN.{length, drop};
 ghost use Rattle.text.specs.Lines.{wholeLinesOf};
 ghost use Rattle.text.specs.Marks.{markOf};
 ghost use Rattle.stored.specs.Shapes.{endsShape, valuesText, isShape, storedOf};
 ghost use Rattle.stored.specs.Places.{storedPlace};
+ghost use Rattle.stored.specs.Inside.{walkStart, mostOf, soughtOf, isAhead, nextOf};
 use fields::Part;
+use places::State;
 use places::Stepped;
 use text::Mark;
+
+// Where a walk over the lines of a file stands: the place, how many lines were passed, the state there, and the greatest ID of the shapes passed.
+pub struct Walk {
+    pub at: usize,
+    pub lines: usize,
+    pub state: State,
+    pub most: i64,
+}
+
+// Where stored lines stand, and the walk that found them.
+pub struct Sought {
+    pub part: Part,
+    pub walk: Walk,
+}
 
 // Does this line end a shape's stored lines?
 fn ends_shape(line: &[u8]) -> bool
@@ -54,34 +70,104 @@ fn is_shape(did: Stepped, id: i64) -> bool
     signed::same(number, id)
 }
 
+// The greatest ID of the shapes passed, behind a line that gave this.
+fn most_passed(most: i64, did: Stepped) -> i64
+    ensures { λ r. ⌜ r ≡ mostOf most did ⌝ }
+{
+    let id = did.cells[1];
+    if !is_shape(did, id) {
+        return most;
+    }
+    if signed::less(most, id) {
+        return id;
+    }
+    most
+}
+
+// A walk at the front of a file.
+pub fn walk_start() -> Walk
+    ensures { λ r. ⌜ r ≡ walkStart ⌝ }
+{
+    Walk {
+        at: 0,
+        lines: 0,
+        state: places::start(),
+        most: 0,
+    }
+}
+
+// Walks on to the first shape with this ID; its stored lines are empty, and at the start, if there is none.
+fn seek(file: &[u8], from: Walk, id: i64) -> Sought
+    requires { ⌜ from .lines ≤ from .at ⌝ }
+    ensures { λ r. ⌜ r ≡ soughtOf (now (file .entry)) from id ⌝ }
+{
+    let mut walk = from;
+    while walk.at < file.len() {
+        let at = walk.at;
+        let state = walk.state;
+        let number = walk.lines + 1;
+        let line = text::next_line(file, at);
+        let stop = line.stop;
+        let behind = line.next;
+        let did = grammar::step(state, number, &file[at..stop]);
+        let found = did.found;
+        if file::is_fault(found) {
+            return Sought {
+                part: Part { start: 0, stop: 0 },
+                walk,
+            };
+        }
+        let next = did.next;
+        let passed = Walk {
+            at: behind,
+            lines: number,
+            state: next,
+            most: most_passed(walk.most, did),
+        };
+        if is_shape(did, id) {
+            let part = Part {
+                start: behind,
+                stop: stored_end(file, behind),
+            };
+            return Sought { part, walk: passed };
+        }
+        walk = passed;
+    }
+    Sought {
+        part: Part { start: 0, stop: 0 },
+        walk,
+    }
+}
+
 // Where the stored lines of the first shape with this ID stand; at the start, and empty, if there is none.
 pub fn stored_place(file: &[u8], id: i64) -> Part
     ensures { λ r. ⌜ r ≡ storedPlace (now (file .entry)) id ⌝ }
 {
-    let mut st = places::start();
-    let mut at: usize = 0;
-    let mut n: usize = 1;
-    while at < file.len() {
-        let line = text::next_line(file, at);
-        let stop = line.stop;
-        let behind = line.next;
-        let did = grammar::step(st, n, &file[at..stop]);
-        let found = did.found;
-        if file::is_fault(found) {
-            return Part { start: 0, stop: 0 };
-        }
-        if is_shape(did, id) {
-            return Part {
-                start: behind,
-                stop: stored_end(file, behind),
-            };
-        }
-        n += 1;
-        at = behind;
-        let next = did.next;
-        st = next;
+    let sought = seek(file, walk_start(), id);
+    sought.part
+}
+
+// Is a shape with this ID among the lines that are left, if it is anywhere? A walk that passed more lines than bytes is none.
+fn is_ahead(walk: Walk, id: i64) -> bool
+    ensures { λ r. ⌜ r ≡ isAhead walk id ⌝ }
+{
+    if walk.at < walk.lines {
+        return false;
     }
-    Part { start: 0, stop: 0 }
+    signed::less(walk.most, id)
+}
+
+// The same, sought from where a walk stands if it is ahead, else from the front.
+pub fn stored_next(file: &[u8], walk: Walk, id: i64) -> Sought
+    ensures { λ r. ⌜ r ≡ nextOf (now (file .entry)) walk id ⌝ }
+{
+    if is_ahead(walk, id) {
+        return seek(file, walk, id);
+    }
+    Sought {
+        part: stored_place(file, id),
+        walk,
+    }
 }
 
 // The stored lines of the first shape with this ID; empty if there is none.

@@ -1,17 +1,45 @@
--- `sampling::expand_row` meets its contract. Assumes nothing.
-use mathlib.Core.Path.{refl, _∙_}
+-- `sampling::expand_row` meets its contract: what stands at the place that was found are the stored lines. Assumes nothing.
+use mathlib.Core.Path.{_≡_, refl, _∙_}
+use denote.Ref.{now}
+use mir.Syntax.{w64}
+use mir.Val.{toZ, ofZ}
 use Rattle.signed.proofs.Machine.{rd-at}
+use Rattle.grammar.proofs.Parts.{Holds}
+use Rattle.tables.specs.Tables.{numberAt}
 use Rattle.tables.proofs.Numbers.{compared}
-use Rattle.sampling.proofs.Laying.{row-shape, row-other}
+use Rattle.sampling.specs.Sampling.{textAt}
+use Rattle.sampling.proofs.Laying.{row-text, row-shape, row-other}
 use borrow.Author.Needs.{needs}
 use Rattle.sampling.proofs.expand_row.Statement.{statement}
 use Rattle.sampling.proofs.expand_row.Tie as tie
+
+-- the ID that was sought, and what stands at the place that was found
+id-is : (c : tie.After-number2) → toZ w64 (ofZ w64 (c .number2 .result)) ≡ numberAt (now (c .before .before .before .before .before .args .rows)) (c .before .before .before .before .before .args .k) 1
+id-is c = rd-at _ (c .number2 .ok) ∙ c .number2 .ensures
+
+there : (c : tie.After-stored-next) → Holds (now (c .before .before .before .before .before .before .args .file)) (c .stored-next .result .part) (textAt (now (c .before .before .before .before .before .before .args .file)) (now (c .before .before .before .before .before .before .args .rows)) (c .before .before .before .before .before .before .args .k))
+there c = row-text _ _ _ _ (c .before .before .before .before .before .before .pre) _ (id-is (c .before)) _ (c .stored-next .ensures)
 
 number-requires : tie.Need-number-requires
 number-requires c κs = search needs
 
 same-requires : tie.Need-same-requires
 same-requires c κs = search needs
+
+number-requires-2 : tie.Need-number-requires-2
+number-requires-2 c κs = search needs
+
+stored-next-requires : tie.Need-stored-next-requires
+stored-next-requires c κs = search needs
+
+sub-expand-shape : tie.Need-sub-expand-shape
+sub-expand-shape c = there (c .before) .ordered
+
+part-expand-shape-start : tie.Need-part-expand-shape-start
+part-expand-shape-start c = there (c .before) .ordered
+
+part-expand-shape-end : tie.Need-part-expand-shape-end
+part-expand-shape-end c = there (c .before) .within
 
 expand-shape-requires : tie.Need-expand-shape-requires
 expand-shape-requires c κs = search needs
@@ -20,18 +48,28 @@ same-length : tie.Need-same-length
 same-length c = search needs
 
 returns : tie.Need-returns
-returns c = let x = c .before in
-    let i = x .before .before in
-    let s = i .before in
-    let n = s .before in
-    row-shape _ _ _ _ _ _ (n .number .ensures) (compared _ _ _ _ (s .same .ensures) (rd-at _ (n .number .ok)) refl ∙ i .if1 .taken) _ _ (x .expand-shape .ensures)
+returns c = let x = c .before .before in
+    let t = x .before .before .before .before in
+    let i = t .before .before in
+    let n = i .before .before in
+    row-shape _ _ _ _ _ _ (n .number .ensures) (compared _ _ _ _ (i .before .same .ensures) (rd-at _ (n .number .ok)) refl ∙ i .if1 .taken) _ (t .before .before .before .before .before .before .pre) _ _ (t .stored-next .ensures) _ (there t .there) _ _ (x .expand-shape .ensures)
 
 returns-2 : tie.Need-returns-2
-returns-2 c = let s = c .before in
-    let n = s .before in
-    row-other _ _ _ _ _ _ (n .number .ensures) (compared _ _ _ _ (s .same .ensures) (rd-at _ (n .number .ok)) refl ∙ c .if1 .left)
+returns-2 c = let n = c .before .before in
+    row-other _ _ _ _ _ _ (n .number .ensures) (compared _ _ _ _ (c .before .same .ensures) (rd-at _ (n .number .ok)) refl ∙ c .if1 .left) _ (n .before .before .pre)
 
 pub expand-row-spec : {M : Type 1} → statement M
 expand-row-spec =
     tie.close
-    (tie.spec number-requires same-requires expand-shape-requires same-length returns returns-2)
+    (tie.spec
+    number-requires
+    same-requires
+    number-requires-2
+    stored-next-requires
+    sub-expand-shape
+    part-expand-shape-start
+    part-expand-shape-end
+    expand-shape-requires
+    same-length
+    returns
+    returns-2)

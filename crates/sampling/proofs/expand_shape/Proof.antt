@@ -1,17 +1,8 @@
 -- `sampling::expand_shape` meets its contract: a part of the samples is lent and comes back. Assumes nothing.
-use mathlib.Core.Path.{ap, _∙_}
-use Rattle.signed.proofs.Machine.{rd-at}
-use Rattle.stored.specs.Shapes.{storedOf}
 use Rattle.sampling.proofs.Laying.{shape-laid}
 use borrow.Author.Needs.{needs}
 use Rattle.sampling.proofs.expand_shape.Statement.{statement}
 use Rattle.sampling.proofs.expand_shape.Tie as tie
-
-number-requires : tie.Need-number-requires
-number-requires c κs = search needs
-
-stored-lines-requires : tie.Need-stored-lines-requires
-stored-lines-requires c κs = search needs
 
 size-at-requires : tie.Need-size-at-requires
 size-at-requires c κs = search needs
@@ -57,17 +48,12 @@ returns c = let e = c .before .before in
     let o = e .before .before in
     let f = o .before in
     let p = f .before in
-    let a = p .before in
-    let t = a .before in
-    let n = t .before in
-    shape-laid _ _ _ _ _ _ (n .number .ensures) _ (t .stored-lines .ensures ∙ ap (storedOf _) (rd-at _ (n .number .ok))) _ (a .size-at .ensures) _ (p .size-at2 .ensures) _ (f .least .ensures) _ (o .least2 .ensures) _ _ (e .expand .ensures) _ (c .has-failed .ensures)
+    shape-laid _ _ _ _ _ _ (p .before .size-at .ensures) _ (p .size-at2 .ensures) _ (f .least .ensures) _ (o .least2 .ensures) _ _ (e .expand .ensures) _ (c .has-failed .ensures)
 
 pub expand-shape-spec : {M : Type 1} → statement M
 expand-shape-spec =
     tie.close
     (tie.spec
-    number-requires
-    stored-lines-requires
     size-at-requires
     size-at-requires-2
     least-requires

@@ -8,41 +8,44 @@ use Rattle.sampling.proofs.expand_shapes.Statement.{statement}
 use Rattle.sampling.proofs.expand_shapes.Tie as tie
 
 abbrev Inv-loop : tie.InvT-loop
-Inv-loop file edition rows n samples₀ k₀ samples k = Expanding edition file rows n samples₀ samples k
+Inv-loop file edition rows n samples₀ walk₀ k₀ samples walk k = Expanding edition file rows n samples₀ samples walk k
 
 abbrev μ-loop : tie.MeasureT-loop
-μ-loop file edition rows n samples₀ k₀ samples k = n - k
+μ-loop file edition rows n samples₀ walk₀ k₀ samples walk k = n - k
+
+walk-start-requires : tie.Need-walk-start-requires Inv-loop μ-loop
+walk-start-requires c κs = search needs
 
 loop-holds : tie.Need-loop-holds Inv-loop μ-loop
-loop-holds c = expanding-start _ _ _ _ _
+loop-holds c = expanding-start _ _ _ _ _ _ (c .walk-start .ensures)
 
 expand-row-requires : tie.Need-expand-row-requires Inv-loop μ-loop
-expand-row-requires c κs = search needs
+expand-row-requires c κs = c .before .before .loop .inv .walked
 
 same-length : tie.Need-same-length Inv-loop μ-loop
-same-length c = let x = c .before .before in x .expand-row .kept .1 .1 .1 .1 .0 ∙ x .before .before .before .loop .inv .long
+same-length c = let x = c .before .before in x .expand-row .kept .1 .1 .1 .1 .1 .0 ∙ x .before .before .before .loop .inv .long
 
 returns : tie.Need-returns Inv-loop μ-loop
 returns c = let x = c .before .before in
     let l = x .before .before in
-    expanding-fails _ _ _ _ _ _ _ (l .before .loop .inv) (l .loop-test .taken) _ _ (x .expand-row .ensures) (c .if1 .taken)
+    expanding-fails _ _ _ _ _ _ _ _ (l .before .loop .inv) (l .loop-test .taken) _ _ (x .expand-row .ensures) (c .if1 .taken)
 
 add-k : tie.Need-add-k Inv-loop μ-loop
 add-k c = search needs
 
 loop-less : tie.Need-loop-less Inv-loop μ-loop
-loop-less c = omega (arith, c .before .before .before .before .loop-test .taken)
+loop-less c = omega (arith, c .before .before .before .before .before .loop-test .taken)
 
 loop-again : tie.Need-loop-again Inv-loop μ-loop
-loop-again c = let x = c .before .before in
+loop-again c = let x = c .before .before .before in
     let l = x .before .before in
-    expanding-turn _ _ _ _ _ _ _ (l .before .loop .inv) (l .loop-test .taken) _ _ (x .expand-row .ensures) (c .if1 .left) (x .expand-row .kept .1 .1 .1 .1 .0)
+    expanding-turn _ _ _ _ _ _ _ _ (l .before .loop .inv) (l .loop-test .taken) _ _ (x .expand-row .ensures) (c .before .if1 .left) (x .expand-row .kept .1 .1 .1 .1 .1 .0)
 
 same-length-2 : tie.Need-same-length-2 Inv-loop μ-loop
 same-length-2 c = c .before .loop .inv .long
 
 returns-2 : tie.Need-returns-2 Inv-loop μ-loop
-returns-2 c = expanding-end _ _ _ _ _ _ _ (c .before .loop .inv) (c .loop-test .left)
+returns-2 c = expanding-end _ _ _ _ _ _ _ _ (c .before .loop .inv) (c .loop-test .left)
 
 pub expand-shapes-spec : {M : Type 1} → statement M
 expand-shapes-spec =
@@ -50,6 +53,7 @@ expand-shapes-spec =
     (tie.spec
     Inv-loop
     μ-loop
+    walk-start-requires
     loop-holds
     expand-row-requires
     same-length

@@ -1,0 +1,114 @@
+-- `stored::seek` meets its contract. The loop seeks the shape among the lines that are left (`Seeking`). Assumes nothing.
+use Prim.Native.Nat.{_-_}
+use mathlib.Core.Path.{_≡_, refl, sym, ap, _∙_}
+use native.Mathlib.Omega.{arith}
+use denote.Ref.{now}
+use lib.IntN.{ℤ}
+use lib.ListN.{length}
+use mir.Syntax.{w64}
+use mir.Val.{toZ, ofZ}
+use Rattle.text.proofs.Cut.{LineAt, line-at, WholeAt, whole-at}
+use Rattle.signed.proofs.Machine.{rd-at, rd-is}
+use Rattle.stored.specs.Inside.{mostOf, soughtOf}
+use Rattle.stored.proofs.Seeking.{Seeking, seek-fault, seek-hit, seek-turn, seek-end, passed-is}
+use borrow.Author.Needs.{needs}
+use Rattle.stored.proofs.seek.Statement.{statement}
+use Rattle.stored.proofs.seek.Tie as tie
+
+abbrev Inv-loop : tie.InvT-loop
+Inv-loop file id from walk = Seeking file (toZ w64 id) from walk
+
+abbrev μ-loop : tie.MeasureT-loop
+μ-loop file id from walk = length file - walk .at
+
+-- the line that starts here
+here : (c : tie.After-next-line Inv-loop μ-loop) → LineAt (now (c .before .before .before .before .before .before .before .args .file)) (c .before .before .before .before .before .loop .walk .at) (c .next-line .result)
+here c = line-at _ _ _ (c .next-line .ensures) (omega arith)
+
+whole : (c : tie.After-next-line Inv-loop μ-loop) → WholeAt (now (c .before .before .before .before .before .before .before .args .file)) (c .before .before .before .before .before .loop .walk .at) (c .next-line .result)
+whole c = whole-at _ _ _ (c .next-line .ensures) (omega arith)
+
+-- the greatest ID of the shapes passed, behind it
+most-is : (c : tie.After-most-passed Inv-loop μ-loop) → toZ w64 (ofZ w64 (c .most-passed .result)) ≡ mostOf (c .before .before .before .before .before .before .before .before .before .before .before .before .loop .walk .most) (c .before .before .before .before .before .step .result)
+most-is c = rd-at _ (c .most-passed .ok) ∙ c .most-passed .ensures ∙ ap (λ (z : ℤ). mostOf z (c .before .before .before .before .before .step .result)) (rd-at (c .before .before .before .before .before .before .before .before .before .before .before .before .loop .walk .most) (search needs))
+
+loop-holds : tie.Need-loop-holds Inv-loop μ-loop
+loop-holds c = record { lines = c .before .pre; same = refl }
+
+add-number : tie.Need-add-number Inv-loop μ-loop
+add-number c = omega (arith, c .before .before .before .before .loop .inv .lines, c .before .before .before .before .before .before .good .0 .0)
+
+next-line-requires : tie.Need-next-line-requires Inv-loop μ-loop
+next-line-requires c κs = search needs
+
+sub-step : tie.Need-sub-step Inv-loop μ-loop
+sub-step c = here c .ordered
+
+part-step-start : tie.Need-part-step-start Inv-loop μ-loop
+part-step-start c = here c .ordered
+
+part-step-end : tie.Need-part-step-end Inv-loop μ-loop
+part-step-end c = here c .within
+
+step-requires : tie.Need-step-requires Inv-loop μ-loop
+step-requires c κs = search needs
+
+is-fault-requires : tie.Need-is-fault-requires Inv-loop μ-loop
+is-fault-requires c κs = search needs
+
+returns : tie.Need-returns Inv-loop μ-loop
+returns c = let s = c .before .before in
+    let l = s .before .before in
+    seek-fault _ _ _ _ (l .before .before .before .before .before .loop .inv) _ (here l) (whole l) _ (s .step .ensures) (sym (c .before .is-fault .ensures) ∙ c .if2 .taken) ∙ ap (soughtOf _ _) (rd-is (l .before .before .before .before .before .before .before .fits .id))
+
+most-passed-requires : tie.Need-most-passed-requires Inv-loop μ-loop
+most-passed-requires c κs = search needs
+
+is-shape-requires : tie.Need-is-shape-requires Inv-loop μ-loop
+is-shape-requires c κs = search needs
+
+stored-end-requires : tie.Need-stored-end-requires Inv-loop μ-loop
+stored-end-requires c κs = search needs
+
+returns-2 : tie.Need-returns-2 Inv-loop μ-loop
+returns-2 c = let m = c .before .before .before in
+    let f = m .before .before .before in
+    let s = f .before .before in
+    let l = s .before .before in
+    seek-hit _ _ _ _ (l .before .before .before .before .before .loop .inv) _ (here l) (whole l) _ (s .step .ensures) (sym (f .before .is-fault .ensures) ∙ f .if2 .left) _ (passed-is _ _ _ _ (most-is m)) (sym (c .before .before .is-shape .ensures) ∙ c .before .if3 .taken) _ (c .stored-end .ensures) ∙ ap (soughtOf _ _) (rd-is (l .before .before .before .before .before .before .before .fits .id))
+
+loop-less : tie.Need-loop-less Inv-loop μ-loop
+loop-less c = let l = c .before .before .before .before .before .before .before .before .before in omega (arith, here l .further, here l .inside)
+
+loop-again : tie.Need-loop-again Inv-loop μ-loop
+loop-again c = let m = c .before .before in
+    let f = m .before .before .before in
+    let s = f .before .before in
+    let l = s .before .before in
+    seek-turn _ _ _ _ (l .before .before .before .before .before .loop .inv) _ (here l) (whole l) _ (s .step .ensures) (sym (f .before .is-fault .ensures) ∙ f .if2 .left) _ (passed-is _ _ _ _ (most-is m)) (sym (c .before .is-shape .ensures) ∙ c .if3 .left)
+
+returns-3 : tie.Need-returns-3 Inv-loop μ-loop
+returns-3 c = seek-end _ _ _ _ (c .before .before .loop .inv) (c .if1 .left) ∙ ap (soughtOf _ _) (rd-is (c .before .before .before .before .fits .id))
+
+pub seek-spec : {M : Type 1} → statement M
+seek-spec =
+    tie.close
+    (tie.spec
+    Inv-loop
+    μ-loop
+    loop-holds
+    add-number
+    next-line-requires
+    sub-step
+    part-step-start
+    part-step-end
+    step-requires
+    is-fault-requires
+    returns
+    most-passed-requires
+    is-shape-requires
+    stored-end-requires
+    returns-2
+    loop-less
+    loop-again
+    returns-3)
