@@ -104,3 +104,10 @@ found-only rows n class id once h =
   where
     same : (k : ℕ) → k < n → (sameZ (classAt rows k) class ≡ true) × (sameZ (numberAt rows k 1) id ≡ true) → k ≡ firstSuch (isRowOf rows class id) 0 n
     same k l b = sym (rw (sameZ-true (classAt rows k) class (b .0), sameZ-true (numberAt rows k 1) id (b .1)) at (once k l))
+
+-- a row of the class with the ID is the first one, where none repeats one
+pub row-once : (rows : List ℤ) (n : ℕ) (class id : ℤ) (k : ℕ) → NoneAgain rows n → k < n → isRowOf rows class id k ≡ true → k ≡ firstRow rows n class id
+unfolding NoneAgain isRowOf
+row-once rows n class id k once h e =
+    let b = and-both (sameZ (classAt rows k) class) (sameZ (numberAt rows k 1) id) e in
+    sym (rw (sameZ-true (classAt rows k) class (b .0), sameZ-true (numberAt rows k 1) id (b .1)) at (once k h))

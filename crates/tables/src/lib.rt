@@ -3,7 +3,7 @@ ghost use Prim.Native.Nat.{_+_};
 ghost use mathlib.Core.Path.{_≡_};
 ghost use lib.IntN.{pos};
 ghost use lib.ListN.{length, take, drop};
-ghost use Rattle.tables.specs.Tables.{numberAt, classNumber, classAt, isRowOf, firstRow, isAgain, firstAgain, metRow, metNumber, samplesAt, samplesOf};
+ghost use Rattle.tables.specs.Tables.{numberAt, classNumber, classAt, isRowOf, firstRow, isAgain, firstAgain, NoneAgain, metRow, metNumber, samplesAt, samplesOf};
 ghost use Rattle.tables.specs.Inside.{placeOf, Noted};
 
 // What an ID is unique in.
@@ -150,18 +150,41 @@ pub fn first_again(rows: &[i64], n: usize) -> usize
     first_again_noting(&mut most, rows, n)
 }
 
-// The row that a reference meets among n rows; n if it is 0 or meets none.
+// Where a row of this class with this ID may stand.
+fn guess_of(rows: &[i64], n: usize, class: i64, id: i64) -> usize
+    ensures { λ r. ⌜ r ≡ r ⌝ }
+{
+    n
+}
+
+// The row of this class with this ID among n rows of which none repeats one; n if there is none. A guess is looked at first.
+pub fn find_once(rows: &[i64], n: usize, class: i64, id: i64) -> usize
+    requires { ⌜ NoneAgain (now rows) n ⌝ }
+    ensures { λ r. ⌜ r ≡ firstRow (now (rows .entry)) n class id ⌝ }
+{
+    let guess = guess_of(rows, n, class, id);
+    if guess < n {
+        if is_row_of(rows, guess, class, id) {
+            return guess;
+        }
+    }
+    find(rows, n, class, id)
+}
+
+// The row that a reference meets among n rows of which none repeats an ID; n if it is 0 or meets none.
 pub fn met_row(rows: &[i64], n: usize, class: i64, id: i64) -> usize
+    requires { ⌜ NoneAgain (now rows) n ⌝ }
     ensures { λ r. ⌜ r ≡ metRow (now (rows .entry)) n class id ⌝ }
 {
     if signed::same(id, 0) {
         return n;
     }
-    find(rows, n, class, id)
+    find_once(rows, n, class, id)
 }
 
 // Number c of the row that a reference meets; 0 if it meets none.
 pub fn met_number(rows: &[i64], n: usize, class: i64, id: i64, c: usize) -> i64
+    requires { ⌜ NoneAgain (now rows) n ⌝ }
     ensures { λ r. ⌜ r ≡ metNumber (now (rows .entry)) n class id c ⌝ }
 {
     let k = met_row(rows, n, class, id);
@@ -196,6 +219,7 @@ pub fn samples_at<'a>(rows: &[i64], k: usize, samples: &'a [i64]) -> &'a [i64]
 
 // The samples of the shape with this ID: those that its row counts from its place on.
 pub fn samples_of<'a>(rows: &[i64], n: usize, samples: &'a [i64], id: i64) -> &'a [i64]
+    requires { ⌜ NoneAgain (now rows) n ⌝ }
     ensures { λ r. ⌜ now r ≡ samplesOf (now (rows .entry)) n (now (samples .entry)) id ⌝ }
 {
     let count = signed::size(met_number(rows, n, 11, id, 2)) as usize;
