@@ -12,7 +12,7 @@ use lib.IntN.{ℤ}
 use Rattle.signed.specs.Signed.{sameZ}
 use Rattle.signed.proofs.Sign.{sameZ-refl, sameZ-true}
 use Rattle.text.proofs.Cases.{lt-or-ge, and-both}
-use Rattle.tables.specs.Tables.{firstSuch, classAt, numberAt, isRowOf, firstRow, isAgain, NoneAgain, OnlyRow}
+use Rattle.tables.specs.Tables.{firstSuch, classAt, numberAt, isRowOf, firstRow, isAgain, firstAgain, NoneAgain, OnlyRow}
 
 module _ (holds : ℕ → Bool) where
   -- ---- a loop over rows: with k of n passed, the first is among those left
@@ -111,3 +111,8 @@ unfolding NoneAgain isRowOf
 row-once rows n class id k once h e =
     let b = and-both (sameZ (classAt rows k) class) (sameZ (numberAt rows k 1) id) e in
     sym (rw (sameZ-true (classAt rows k) class (b .0), sameZ-true (numberAt rows k 1) id (b .1)) at (once k h))
+
+-- where the first row that repeats one is none of n rows, none does
+pub first-none : (rows : List ℤ) (n : ℕ) {r : ℕ} → r ≡ firstAgain rows n → n ≤ r → NoneAgain rows n
+unfolding firstAgain
+first-none rows n e h = none-again rows n (λ k l. first-is (isAgain rows) 0 n .before k (omega arith) (omega arith))
