@@ -8,7 +8,7 @@ use unit::Nanos;
 use unit::RasterCount;
 use unit::Rasters;
 
-// The length of the event that a reference meets; 0 if it meets none.
+// The length of the event that a reference meets; 0 if it meets none, or refers to no class.
 fn met_length(
     rasters: Rasters,
     rows: &[i64],
@@ -20,6 +20,9 @@ fn met_length(
     requires { ⌜ NoneAgain (now rows) n ⌝ }
     ensures { λ r. ⌜ r .0 ≡ capped (metLength rasters (now (rows .entry)) n (now (samples .entry)) class id) ⌝ }
 {
+    if signed::same(class, 0) {
+        return Nanos(0);
+    }
     let k = tables::met_row(rows, n, class, id);
     if k < n {
         return lengths::row_length(rasters, rows, n, samples, k);
