@@ -1,4 +1,5 @@
 // How long blocks and extension chains last, and what is asked of blocks: LONG and OUTLASTS.
+ghost use Rattle.tables.specs.Tables.{NoneAgain};
 ghost use mathlib.Core.Path.{_≡_};
 ghost use Rattle.unit.specs.Time.{capped};
 ghost use Rattle.blocks.specs.Blocks.{metLength, entryLength, chainLength, referenceLength, longestEvent, blockLength, isLong, outlastsAt};
@@ -7,7 +8,7 @@ use unit::Nanos;
 use unit::RasterCount;
 use unit::Rasters;
 
-// The length of the event that a reference meets; 0 if it meets none.
+// The length of the event that a reference meets; 0 if it meets none, or refers to no class.
 fn met_length(
     rasters: Rasters,
     rows: &[i64],
@@ -16,8 +17,12 @@ fn met_length(
     class: i64,
     id: i64,
 ) -> Nanos
+    requires { ⌜ NoneAgain (now rows) n ⌝ }
     ensures { λ r. ⌜ r .0 ≡ capped (metLength rasters (now (rows .entry)) n (now (samples .entry)) class id) ⌝ }
 {
+    if signed::same(class, 0) {
+        return Nanos(0);
+    }
     let k = tables::met_row(rows, n, class, id);
     if k < n {
         return lengths::row_length(rasters, rows, n, samples, k);
@@ -27,6 +32,7 @@ fn met_length(
 
 // The length of what entry k refers to.
 fn entry_length(rasters: Rasters, rows: &[i64], n: usize, samples: &[i64], k: usize) -> Nanos
+    requires { ⌜ NoneAgain (now rows) n ⌝ }
     ensures { λ r. ⌜ r .0 ≡ capped (entryLength rasters (now (rows .entry)) n (now (samples .entry)) k) ⌝ }
 {
     let class = references::extension_ref(rows, n, tables::number(rows, k, 2));
@@ -42,6 +48,7 @@ fn chain_length(
     k: usize,
     left: usize,
 ) -> Nanos
+    requires { ⌜ NoneAgain (now rows) n ⌝ }
     ensures { λ r. ⌜ r .0 ≡ capped (chainLength rasters (now (rows .entry)) n (now (samples .entry)) left k) ⌝ }
 {
     if left == 0 {
@@ -64,6 +71,7 @@ fn reference_length(
     class: i64,
     id: i64,
 ) -> Nanos
+    requires { ⌜ NoneAgain (now rows) n ⌝ }
     ensures { λ r. ⌜ r .0 ≡ capped (referenceLength rasters (now (rows .entry)) n (now (samples .entry)) class id) ⌝ }
 {
     if signed::same(class, 7) {
@@ -82,6 +90,7 @@ pub fn longest_event(
     samples: &[i64],
     k: usize,
 ) -> Nanos
+    requires { ⌜ NoneAgain (now rows) n ⌝ }
     ensures { λ r. ⌜ r .0 ≡ capped (longestEvent edition rasters (now (rows .entry)) n (now (samples .entry)) k) ⌝ }
 {
     let mut longest = Nanos(0);
@@ -104,6 +113,7 @@ pub fn block_length(
     samples: &[i64],
     k: usize,
 ) -> Nanos
+    requires { ⌜ NoneAgain (now rows) n ⌝ }
     ensures { λ r. ⌜ r .0 ≡ capped (blockLength edition rasters (now (rows .entry)) n (now (samples .entry)) k) ⌝ }
 {
     match edition {
@@ -124,6 +134,7 @@ pub fn is_long(
     samples: &[i64],
     k: usize,
 ) -> bool
+    requires { ⌜ NoneAgain (now rows) n ⌝ }
     ensures { λ r. ⌜ r ≡ isLong edition rasters (now (rows .entry)) n (now (samples .entry)) k ⌝ }
 {
     if signed::same(tables::number(rows, k, 0), 1) {
@@ -135,6 +146,7 @@ pub fn is_long(
 
 // Is row k a block of 1.4 that an event outlasts?
 pub fn outlasts(rasters: Rasters, rows: &[i64], n: usize, samples: &[i64], k: usize) -> bool
+    requires { ⌜ NoneAgain (now rows) n ⌝ }
     ensures { λ r. ⌜ r ≡ outlastsAt rasters (now (rows .entry)) n (now (samples .entry)) k ⌝ }
 {
     if signed::same(tables::number(rows, k, 0), 1) {

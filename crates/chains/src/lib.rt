@@ -1,9 +1,11 @@
 // Extension chains, followed entry by entry with a count of entries left.
+ghost use Rattle.tables.specs.Tables.{NoneAgain};
 ghost use mathlib.Core.Path.{_≡_};
 ghost use Rattle.chains.specs.Chains.{nextEntry, exceedsOf, loopsAt};
 
 // The row of the entry that follows entry k; n, the number of rows, if none does.
 pub fn next_entry(rows: &[i64], n: usize, k: usize) -> usize
+    requires { ⌜ NoneAgain (now rows) n ⌝ }
     ensures { λ r. ⌜ r ≡ nextEntry (now (rows .entry)) n k ⌝ }
 {
     tables::met_row(rows, n, 7, tables::number(rows, k, 4))
@@ -11,6 +13,7 @@ pub fn next_entry(rows: &[i64], n: usize, k: usize) -> usize
 
 // Has the chain from entry k more entries than are left to count?
 fn exceeds(rows: &[i64], n: usize, k: usize, left: usize) -> bool
+    requires { ⌜ NoneAgain (now rows) n ⌝ }
     ensures { λ r. ⌜ r ≡ exceedsOf (now (rows .entry)) n left k ⌝ }
 {
     if left == 0 {
@@ -25,6 +28,7 @@ fn exceeds(rows: &[i64], n: usize, k: usize, left: usize) -> bool
 
 // Is row k an entry whose chain is over 256 entries?
 pub fn loops(rows: &[i64], n: usize, k: usize) -> bool
+    requires { ⌜ NoneAgain (now rows) n ⌝ }
     ensures { λ r. ⌜ r ≡ loopsAt (now (rows .entry)) n k ⌝ }
 {
     if signed::same(tables::number(rows, k, 0), 7) {

@@ -1,4 +1,5 @@
 // What is asked of an event by itself: USE, that its shapes fit it, and ALIGN, that its times lie on the rasters.
+ghost use Rattle.tables.specs.Tables.{NoneAgain};
 ghost use mathlib.Core.Path.{_≡_};
 ghost use lib.IntN.{negsuc};
 ghost use Rattle.events.specs.Use.{allUnit, followsOf, risesFrom, timeFits, shapedFits, rfFits, misfitsAt};
@@ -52,6 +53,7 @@ fn rises(times: &[i64]) -> bool
 
 // Does a time shape fit so many samples? None, which is 0, does.
 fn time_fits(rows: &[i64], n: usize, samples: &[i64], id: i64, count: usize) -> bool
+    requires { ⌜ NoneAgain (now rows) n ⌝ }
     ensures { λ r. ⌜ r ≡ timeFits (now (rows .entry)) n (now (samples .entry)) id count ⌝ }
 {
     if signed::same(id, 0) {
@@ -66,6 +68,7 @@ fn time_fits(rows: &[i64], n: usize, samples: &[i64], id: i64, count: usize) -> 
 
 // Do the amplitude of row k and its time shape, which is number c, fit?
 fn shaped_fits(rows: &[i64], n: usize, samples: &[i64], k: usize, c: usize) -> bool
+    requires { ⌜ NoneAgain (now rows) n ⌝ }
     ensures { λ r. ⌜ r ≡ shapedFits (now (rows .entry)) n (now (samples .entry)) k c ⌝ }
 {
     let amplitude = tables::samples_of(rows, n, samples, tables::number(rows, k, 4));
@@ -83,6 +86,7 @@ fn shaped_fits(rows: &[i64], n: usize, samples: &[i64], k: usize, c: usize) -> b
 
 // Do the three shapes of an RF event fit?
 fn rf_fits(rows: &[i64], n: usize, samples: &[i64], k: usize) -> bool
+    requires { ⌜ NoneAgain (now rows) n ⌝ }
     ensures { λ r. ⌜ r ≡ rfFits (now (rows .entry)) n (now (samples .entry)) k ⌝ }
 {
     let magnitude = tables::samples_of(rows, n, samples, tables::number(rows, k, 4));
@@ -95,6 +99,7 @@ fn rf_fits(rows: &[i64], n: usize, samples: &[i64], k: usize) -> bool
 
 // Is row k an event whose shapes do not fit it?
 pub fn misfits(rows: &[i64], n: usize, samples: &[i64], k: usize) -> bool
+    requires { ⌜ NoneAgain (now rows) n ⌝ }
     ensures { λ r. ⌜ r ≡ misfitsAt (now (rows .entry)) n (now (samples .entry)) k ⌝ }
 {
     let kind = tables::number(rows, k, 0);

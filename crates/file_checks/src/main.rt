@@ -3,6 +3,7 @@
 // A record is a line `FILE SITE` with two counts of bytes, then the bytes of the file, then the bytes of the site.
 ghost use mathlib.Core.Path.{_≡_};
 ghost use Prim.Native.Nat.{_+_, _-_, _≤_, min};
+ghost use Rattle.tables.specs.Tables.{NoneAgain};
 use file::Scanned;
 use libc::STDIN_FILENO;
 use libc::STDOUT_FILENO;
@@ -233,7 +234,10 @@ fn check_rules(
     table: &[i64],
     rows: usize,
     samples: &[i64],
-) -> Verdict {
+) -> Verdict
+    requires { ⌜ NoneAgain (now table) rows ⌝ }
+    ensures { λ r. ⌜ r ≡ r ⌝ }
+{
     let mut i: usize = 0;
     while i < 6 {
         let rule = rule_at(i);
@@ -257,6 +261,11 @@ fn judge_rows(
     rows: usize,
     count: usize,
 ) {
+    let again = tables::first_again(table, rows);
+    if again < rows {
+        show_refusal(9, file::row_line(file, again));
+        return;
+    }
     let mut samples = [0i64; 2000];
     let shapes = check_shapes(file, edition, table, rows, &mut samples);
     if shapes.number != 0 {

@@ -1,4 +1,5 @@
 // How long the event of one row lasts. All times are in the units of `unit`.
+ghost use Rattle.tables.specs.Tables.{NoneAgain};
 ghost use mathlib.Core.Path.{_≡_};
 ghost use Rattle.unit.specs.Time.{capped};
 ghost use Rattle.lengths.specs.Lengths.{microsAt, lastTime, stepsAt, shapedLength, trapLength, adcLength, lengthAt};
@@ -29,6 +30,7 @@ fn last_time(times: &[i64]) -> u64
 
 // The steps that row k takes, whose time shape is number c: its last time, or as many as its amplitude has samples.
 fn steps(rows: &[i64], n: usize, samples: &[i64], k: usize, c: usize) -> RasterCount
+    requires { ⌜ NoneAgain (now rows) n ⌝ }
     ensures { λ r. ⌜ r .0 ≡ stepsAt (now (rows .entry)) n (now (samples .entry)) k c ⌝ }
 {
     let time = tables::number(rows, k, c);
@@ -49,6 +51,7 @@ fn shaped_length(
     delay: usize,
     raster: Nanos,
 ) -> Nanos
+    requires { ⌜ NoneAgain (now rows) n ⌝ }
     ensures { λ r. ⌜ r .0 ≡ capped (shapedLength (now (rows .entry)) n (now (samples .entry)) k c delay (raster .0)) ⌝ }
 {
     let played = steps(rows, n, samples, k, c).nanos(raster);
@@ -75,6 +78,7 @@ fn adc_length(rows: &[i64], k: usize) -> Nanos
 
 // The length of the event of row k.
 pub fn row_length(rasters: Rasters, rows: &[i64], n: usize, samples: &[i64], k: usize) -> Nanos
+    requires { ⌜ NoneAgain (now rows) n ⌝ }
     ensures { λ r. ⌜ r .0 ≡ capped (lengthAt rasters (now (rows .entry)) n (now (samples .entry)) k) ⌝ }
 {
     let kind = tables::number(rows, k, 0);

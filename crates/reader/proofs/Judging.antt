@@ -3,12 +3,19 @@ use Prim.Native.Nat.{ℕ, _+_, _-_, _/_, _≤_, _<_}
 use mathlib.Core.Bool.{Bool, true, false, cond, true≢false}
 use mathlib.Core.List.{List, _∷_}
 use mathlib.Core.Path.{_≡_, refl, sym, ap, _∙_}
+use mathlib.Core.Logic.{⊎-elim}
 use native.Mathlib.Numerals.{add-one}
+use native.Mathlib.Omega.{arith}
 use borrow.Author.Tests.{eq-eqb, ne-eqb, lt-ltb, le-ltb, ltb-false}
 use lib.Dec.{ltb}
 use lib.IntN.{ℤ}
 use lib.ListN.{length, drop, drop-of-length-le}
 use lib.Seq.{drop-cons}
+use Rattle.text.proofs.Cases.{true-or-false}
+use Rattle.tables.specs.Tables.{isAgain, NoneAgain}
+use Rattle.tables.proofs.Found.{none-again}
+use Rattle.duplicates.specs.Again.{by-row}
+use Rattle.duplicates.proofs.Again.{duplicate-is}
 use Rattle.unit.specs.declared.Rasters.{Rasters}
 use Rattle.shape.specs.declared.Edition.{Edition}
 use Rattle.places.specs.declared.Fault.{Fault}
@@ -111,7 +118,7 @@ module _ (again : ℕ) (e : Edition) (file site : List ℕ) (n count : ℕ) (row
         texts-judged y j = record { answer = j .answer ∙ texts-hold y; rows = λ x. rw (← s) (j .rows x); values = j .values }
 
 -- ---- the rows that were counted are the file's, and they fit where there is room
-rows-counted : (file : List ℕ) (e : Edition) (n s : ℕ) (defined : Bool) → File e n s defined ≡ scannedOf file → n ≡ length (rowsOf file)
+pub rows-counted : (file : List ℕ) (e : Edition) (n s : ℕ) (defined : Bool) → File e n s defined ≡ scannedOf file → n ≡ length (rowsOf file)
 rows-counted file e n s defined p = scanned-ends file e n s defined (sym p) .rows
 
 pub room-enough : (n s room size : ℕ) → lacksRoom n s room size ≡ false → n ≤ room / rowWidth
@@ -197,3 +204,9 @@ module _ (file site : List ℕ) (table l table₁ l₁ table′ l′ : List ℤ)
           rows = s ∙ rw (x, u, ← read-answer) (sym (if-refused r _ _ h));
           samples = t ∙ rw (y, v, ← read-answer) (sym (if-refused r _ _ h));
         }
+
+-- ---- Where nothing is met again, no row repeats an ID of its class
+pub none-again-of : (file : List ℕ) (rows : List ℤ) (n : ℕ) {again : ℕ} → n ≤ length (rowsOf file) → again ≡ duplicateLine file rows n → again ≡ 0 → NoneAgain rows n
+none-again-of file rows n few e z =
+    none-again rows n
+    (λ k h. ⊎-elim (λ (x : isAgain rows k ≡ true). absurd (duplicate-is file rows n few .none (sym e ∙ z) _ (by-row (record { k = k; there = h; again = x; here = refl })))) (λ x. x) (true-or-false (isAgain rows k)))

@@ -1,7 +1,10 @@
 // Reading a file with a site's definitions, in one call for every byte string: an acceptance with its tables, or a numbered refusal with its line and
 // tables of zeros.
+ghost use Prim.Native.Nat.{_≤_};
 ghost use mathlib.Core.Path.{_≡_};
-ghost use Rattle.file.specs.Rows.{scannedOf};
+ghost use lib.ListN.{length};
+ghost use Rattle.tables.specs.Tables.{NoneAgain};
+ghost use Rattle.file.specs.Rows.{rowsOf, scannedOf};
 ghost use Rattle.answers.specs.declared.Answer.the-variants.{Accepted};
 ghost use Rattle.reader.specs.Reading.{rulesAsked, Reading};
 ghost use Rattle.reader.specs.Inside.{RowsJudged, TextsJudged, FileJudged, AllJudged};
@@ -21,6 +24,7 @@ fn ask_rules(
     samples: &[i64],
     count: usize,
 ) -> Answer
+    requires { ⌜ NoneAgain (now rows) n ⌝ }
     ensures { λ r. ⌜ r ≡ rulesAsked edition rasters (now (file .entry)) (now (rows .entry)) n (now (samples .entry)) (Accepted n count) ⌝ }
 {
     let mut i: usize = 0;
@@ -48,6 +52,7 @@ fn judge_rows(
     samples: &mut [i64],
     count: usize,
 ) -> Answer
+    requires { ⌜ NoneAgain (now rows) n ⌝ }
     ensures { λ r. ⌜ RowsJudged edition rasters (now (file .entry)) n count (now (rows .entry)) (now (samples .entry)) r (now (rows .exit)) (now (samples .exit)) ⌝ }
 {
     let failing = sampling::expand_shapes(file, edition, rows, n, samples);
@@ -71,6 +76,7 @@ fn judge_texts<'a>(
     samples: &mut [i64],
     count: usize,
 ) -> Answer
+    requires { ⌜ n ≤ length (rowsOf (now file)) ⌝ }
     ensures { λ r. ⌜ TextsJudged edition (now (file .entry)) (now (site .entry)) n count (now (rows .entry)) (now (samples .entry)) r (now (rows .exit)) (now (samples .exit)) ⌝ }
 {
     if questions::has_bad_site(edition, site) {

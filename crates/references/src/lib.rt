@@ -1,4 +1,5 @@
 // References: which class each number of a row refers to, and whether it meets a row there.
+ghost use Rattle.tables.specs.Tables.{NoneAgain};
 ghost use mathlib.Core.Path.{_≡_};
 ghost use lib.IntN.{pos};
 ghost use lib.ListN.{getD};
@@ -56,6 +57,7 @@ fn gradient_ref(c: usize) -> i64
 
 // The class of the rows that an entry of an extension type refers to, by the code of the extension; 0 where that is unknown.
 pub fn extension_ref(rows: &[i64], n: usize, number: i64) -> i64
+    requires { ⌜ NoneAgain (now rows) n ⌝ }
     ensures { λ r. ⌜ r ≡ extensionRef (now (rows .entry)) n number ⌝ }
 {
     let code = tables::met_number(rows, n, 8, number, 2);
@@ -73,6 +75,7 @@ pub fn extension_ref(rows: &[i64], n: usize, number: i64) -> i64
 
 // The class that number c of an entry refers to, whose type is this.
 fn entry_ref(rows: &[i64], n: usize, number: i64, c: usize) -> i64
+    requires { ⌜ NoneAgain (now rows) n ⌝ }
     ensures { λ r. ⌜ r ≡ getD (entryRefs (now (rows .entry)) n number) c (pos 0) ⌝ }
 {
     match c {
@@ -85,6 +88,7 @@ fn entry_ref(rows: &[i64], n: usize, number: i64, c: usize) -> i64
 
 // The class that number c of row k refers to; 0 is none.
 pub fn ref_at(edition: Edition, rows: &[i64], n: usize, k: usize, c: usize) -> i64
+    requires { ⌜ NoneAgain (now rows) n ⌝ }
     ensures { λ r. ⌜ r ≡ refAt edition (now (rows .entry)) n k c ⌝ }
 {
     let kind = tables::number(rows, k, 0);
@@ -105,6 +109,7 @@ pub fn ref_at(edition: Edition, rows: &[i64], n: usize, k: usize, c: usize) -> i
 
 // Does an ID meet none of n rows of a class? An ID of 0, and a class of 0, ask for none.
 fn misses(rows: &[i64], n: usize, class: i64, id: i64) -> bool
+    requires { ⌜ NoneAgain (now rows) n ⌝ }
     ensures { λ r. ⌜ r ≡ missesOf (now (rows .entry)) n class id ⌝ }
 {
     if signed::same(class, 0) {
@@ -113,11 +118,12 @@ fn misses(rows: &[i64], n: usize, class: i64, id: i64) -> bool
     if signed::same(id, 0) {
         return false;
     }
-    n <= tables::find(rows, n, class, id)
+    n <= tables::find_once(rows, n, class, id)
 }
 
 // Does row k refer to a row that is not among the n?
 pub fn dangles(edition: Edition, rows: &[i64], n: usize, k: usize) -> bool
+    requires { ⌜ NoneAgain (now rows) n ⌝ }
     ensures { λ r. ⌜ r ≡ danglesAt edition (now (rows .entry)) n k ⌝ }
 {
     let mut c: usize = 0;

@@ -11,7 +11,7 @@ use Rattle.signed.specs.Signed.{sameZ}
 use Rattle.unit.specs.declared.Rasters.{Rasters}
 use Rattle.shape.specs.declared.Edition.{Edition}
 use Rattle.shape.specs.declared.Edition.the-variants.{V13, V14}
-use Rattle.tables.specs.Tables.{firstSuch, numberAt, classAt, isRowOf, firstRow, metRow, metNumber, samplesOf}
+use Rattle.tables.specs.Tables.{firstSuch, numberAt, classAt, isRowOf, firstRow, NoneAgain, metRow, metNumber, samplesOf}
 use Rattle.chains.specs.Chains.{nextEntry}
 use Rattle.references.specs.References.{blockRefs, rfRefs, gradientRefs, extensionRef, refOf, refAt}
 use Rattle.lengths.specs.Lengths.{microsAt, stepsAt, shapedLength, trapLength, adcLength, lengthOf, lengthAt}
@@ -48,6 +48,12 @@ module _ (rows other : List ℤ) (same : Alike rows other) (n : ℕ) where
   row-same : (class id : ℤ) (k : ℕ) → isRowOf rows class id k ≡ isRowOf other class id k
   unfolding isRowOf
   row-same class id k = rw (class-same k, same k 1 (omega arith))
+
+  pub once-same : NoneAgain other n → NoneAgain rows n
+  unfolding NoneAgain firstRow
+  once-same once k h =
+      rw (such-same (isRowOf rows (classAt rows k) (numberAt rows k 1)) (isRowOf other (classAt rows k) (numberAt rows k 1)) (row-same (classAt rows k) (numberAt rows k 1)) 0 n, class-same k, same k 1 (omega arith))
+      (once k h)
 
   met-same : (class id : ℤ) → metRow rows n class id ≡ metRow other n class id
   unfolding metRow firstRow

@@ -1,5 +1,6 @@
 // The rules over the tables, from REFERENCE to OUTLASTS: each is asked of one row, and answered at the first row for which it is broken. And what
 // the tables hold when all have passed: a block's length.
+ghost use Rattle.tables.specs.Tables.{NoneAgain};
 ghost use mathlib.Core.Path.{_≡_};
 ghost use Rattle.rules.specs.Rules.{ruleNumber, alignBroken, outlastsBroken, isBroken, firstBroken};
 ghost use Rattle.rules.specs.Filled.{lengthNumber, withLength, filled};
@@ -51,6 +52,7 @@ fn breaks_outlasts(
     samples: &[i64],
     k: usize,
 ) -> bool
+    requires { ⌜ NoneAgain (now rows) n ⌝ }
     ensures { λ r. ⌜ r ≡ outlastsBroken edition rasters (now (rows .entry)) n (now (samples .entry)) k ⌝ }
 {
     match edition {
@@ -69,6 +71,7 @@ pub fn is_broken(
     samples: &[i64],
     k: usize,
 ) -> bool
+    requires { ⌜ NoneAgain (now rows) n ⌝ }
     ensures { λ r. ⌜ r ≡ isBroken rule edition rasters (now (rows .entry)) n (now (samples .entry)) k ⌝ }
 {
     match rule {
@@ -90,6 +93,7 @@ pub fn first_broken(
     n: usize,
     samples: &[i64],
 ) -> usize
+    requires { ⌜ NoneAgain (now rows) n ⌝ }
     ensures { λ r. ⌜ r ≡ firstBroken rule edition rasters (now (rows .entry)) n (now (samples .entry)) ⌝ }
 {
     let mut k: usize = 0;
@@ -111,6 +115,7 @@ fn length_number(
     samples: &[i64],
     k: usize,
 ) -> i64
+    requires { ⌜ NoneAgain (now rows) n ⌝ }
     ensures { λ r. ⌜ r ≡ lengthNumber edition rasters (now (rows .entry)) n (now (samples .entry)) k ⌝ }
 {
     let ns = blocks::block_length(edition, rasters, rows, n, samples, k);
@@ -126,6 +131,7 @@ fn fill_row(
     samples: &[i64],
     k: usize,
 )
+    requires { ⌜ NoneAgain (now rows) n ⌝ }
     ensures { λ r. ⌜ now (rows .exit) ≡ withLength edition rasters (now (rows .entry)) n (now (samples .entry)) (now (rows .entry)) k ⌝ }
 {
     if k < rows.len() / 12 {
@@ -139,6 +145,7 @@ fn fill_row(
 
 // Writes the length of each block among n rows into its row, as its tenth number.
 pub fn fill_lengths(edition: Edition, rasters: Rasters, rows: &mut [i64], n: usize, samples: &[i64])
+    requires { ⌜ NoneAgain (now rows) n ⌝ }
     ensures { λ r. ⌜ now (rows .exit) ≡ filled edition rasters (now (rows .entry)) n (now (samples .entry)) (now (rows .entry)) 0 n ⌝ }
 {
     let mut k: usize = 0;

@@ -12,7 +12,7 @@ use lib.IntN.{ℤ}
 use Rattle.signed.specs.Signed.{sameZ}
 use Rattle.signed.proofs.Sign.{sameZ-refl, sameZ-true}
 use Rattle.text.proofs.Cases.{lt-or-ge, and-both}
-use Rattle.tables.specs.Tables.{firstSuch, classAt, numberAt, isRowOf, firstRow, isAgain, NoneAgain, OnlyRow}
+use Rattle.tables.specs.Tables.{firstSuch, classAt, numberAt, isRowOf, firstRow, isAgain, firstAgain, NoneAgain, OnlyRow}
 
 module _ (holds : ℕ → Bool) where
   -- ---- a loop over rows: with k of n passed, the first is among those left
@@ -104,3 +104,15 @@ found-only rows n class id once h =
   where
     same : (k : ℕ) → k < n → (sameZ (classAt rows k) class ≡ true) × (sameZ (numberAt rows k 1) id ≡ true) → k ≡ firstSuch (isRowOf rows class id) 0 n
     same k l b = sym (rw (sameZ-true (classAt rows k) class (b .0), sameZ-true (numberAt rows k 1) id (b .1)) at (once k l))
+
+-- a row of the class with the ID is the first one, where none repeats one
+pub row-once : (rows : List ℤ) (n : ℕ) (class id : ℤ) (k : ℕ) → NoneAgain rows n → k < n → isRowOf rows class id k ≡ true → k ≡ firstRow rows n class id
+unfolding NoneAgain isRowOf
+row-once rows n class id k once h e =
+    let b = and-both (sameZ (classAt rows k) class) (sameZ (numberAt rows k 1) id) e in
+    sym (rw (sameZ-true (classAt rows k) class (b .0), sameZ-true (numberAt rows k 1) id (b .1)) at (once k h))
+
+-- where the first row that repeats one is none of n rows, none does
+pub first-none : (rows : List ℤ) (n : ℕ) {r : ℕ} → r ≡ firstAgain rows n → n ≤ r → NoneAgain rows n
+unfolding firstAgain
+first-none rows n e h = none-again rows n (λ k l. first-is (isAgain rows) 0 n .before k (omega arith) (omega arith))

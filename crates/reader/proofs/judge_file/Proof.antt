@@ -1,6 +1,7 @@
 -- `reader::judge_file` meets its contract. Assumes nothing.
-use Rattle.reader.proofs.Judging.{judged-no, line-faulty, block-missing, room-lacks, file-judged}
+use Rattle.reader.proofs.Judging.{rows-counted, judged-no, line-faulty, block-missing, room-lacks, file-judged}
 use mathlib.Core.Path.{sym, _∙_}
+use native.Mathlib.Omega.{arith}
 use borrow.Author.Needs.{needs}
 use Rattle.reader.proofs.judge_file.Statement.{statement}
 use Rattle.reader.proofs.judge_file.Tie as tie
@@ -41,7 +42,11 @@ returns-2 c = let r = c .before in
     judged-no _ _ (room-lacks _ _ _ _ _ _ _ _ (sym (e .edition .given .1) ∙ s .scan .ensures .answer) _ (m .before .has-block .ensures) _ (m .is-missing .ensures) (f .if1 .left) _ (s .scan .kept .1 .0) _ (r .lacks-room .ensures) (c .if2 .taken))
 
 judge-texts-requires : tie.Need-judge-texts-requires
-judge-texts-requires c κs = search needs
+judge-texts-requires c κs = let m = c .before .before .before .before .before in
+    let e = m .before .before .before in
+    let s = e .before .before .before in
+    let n = rows-counted _ _ _ _ _ (sym (e .edition .given .1) ∙ s .scan .ensures .answer) in
+    omega arith
 
 enum-known-fault : tie.Need-enum-known-fault
 enum-known-fault c = search needs

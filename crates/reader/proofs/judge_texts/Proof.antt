@@ -1,5 +1,5 @@
 -- `reader::judge_texts` meets its contract. Assumes nothing.
-use Rattle.reader.proofs.Judging.{judged-no, site-bad, met-again, raster-lacks, texts-judged}
+use Rattle.reader.proofs.Judging.{none-again-of, judged-no, site-bad, met-again, raster-lacks, texts-judged}
 use borrow.Author.Needs.{needs}
 use Rattle.reader.proofs.judge_texts.Statement.{statement}
 use Rattle.reader.proofs.judge_texts.Tie as tie
@@ -38,7 +38,11 @@ returns-3 c = let k = c .before in
     judged-no _ _ (raster-lacks _ _ _ _ _ _ _ _ _ (b .before .has-bad-site .ensures) (b .if1 .left) _ (d .first-duplicate .ensures) (e .if2 .left) _ (k .before .rasters .ensures) _ (k .is-lacking .ensures) (c .if3 .taken))
 
 judge-rows-requires : tie.Need-judge-rows-requires
-judge-rows-requires c κs = search needs
+judge-rows-requires c κs = let k = c .before .before .before in
+    let e = k .before .before in
+    let d = e .before in
+    let b = d .before .before in
+    none-again-of _ _ _ (b .before .before .before .before .pre) (d .first-duplicate .ensures) (e .if2 .left)
 
 same-length-3 : tie.Need-same-length-3
 same-length-3 c = search needs

@@ -21,15 +21,15 @@ returns-2 c = let t = c .before in
     let s = t .before .before in
     misses-nothing _ _ _ _ (compared _ _ _ _ (s .same .ensures) (rd-is (s .before .fits .class)) refl ∙ t .before .if1 .left) (compared _ _ _ _ (t .same2 .ensures) (rd-is (s .before .fits .id)) refl ∙ c .if2 .taken)
 
-find-requires : tie.Need-find-requires
-find-requires c κs = search needs
+find-once-requires : tie.Need-find-once-requires
+find-once-requires c κs = search needs
 
 returns-3 : tie.Need-returns-3
 returns-3 c = let t = c .before .before in
     let s = t .before .before in
     let a = s .before .fits in
-    misses-found _ _ _ _ (compared _ _ _ _ (s .same .ensures) (rd-is (a .class)) refl ∙ t .before .if1 .left) (compared _ _ _ _ (t .same2 .ensures) (rd-is (a .id)) refl ∙ c .before .if2 .left) _ (c .find .ensures ∙ rw (rd-is (a .class), rd-is (a .id)))
+    misses-found _ _ _ _ (compared _ _ _ _ (s .same .ensures) (rd-is (a .class)) refl ∙ t .before .if1 .left) (compared _ _ _ _ (t .same2 .ensures) (rd-is (a .id)) refl ∙ c .before .if2 .left) _ (c .find-once .ensures ∙ rw (rd-is (a .class), rd-is (a .id)))
 
 pub misses-spec : {M : Type 1} → statement M
 misses-spec =
-    tie.close (tie.spec same-requires returns same-requires-2 returns-2 find-requires returns-3)
+    tie.close (tie.spec same-requires returns same-requires-2 returns-2 find-once-requires returns-3)

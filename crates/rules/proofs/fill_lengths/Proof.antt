@@ -2,6 +2,7 @@
 use borrow.Author.Needs.{needs}
 use Prim.Native.Nat.{_-_}
 use native.Mathlib.Omega.{arith}
+use Rattle.rules.proofs.Alike.{once-same}
 use Rattle.rules.proofs.Filling.{Filling, fill-start, fill-turn, fill-end}
 use Rattle.rules.proofs.fill_lengths.Statement.{statement}
 use Rattle.rules.proofs.fill_lengths.Tie as tie
@@ -16,7 +17,7 @@ loop-holds : tie.Need-loop-holds Inv-loop μ-loop
 loop-holds c = fill-start _ _ _ _ _
 
 fill-row-requires : tie.Need-fill-row-requires Inv-loop μ-loop
-fill-row-requires c κs = search needs
+fill-row-requires c κs = let l = c .before .before in once-same _ _ (l .loop .inv .alike) _ (l .before .pre)
 
 add-k : tie.Need-add-k Inv-loop μ-loop
 add-k c = search needs
