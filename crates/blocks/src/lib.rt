@@ -12,6 +12,7 @@ use unit::Rasters;
 fn met_length(
     rasters: Rasters,
     rows: &[i64],
+    hints: &[i64],
     n: usize,
     samples: &[i64],
     class: i64,
@@ -23,26 +24,42 @@ fn met_length(
     if signed::same(class, 0) {
         return Nanos(0);
     }
-    let k = tables::met_row(rows, n, class, id);
+    let k = finding::met_row(rows, hints, n, class, id);
     if k < n {
-        return lengths::row_length(rasters, rows, n, samples, k);
+        return lengths::row_length(rasters, rows, hints, n, samples, k);
     }
     Nanos(0)
 }
 
 // The length of what entry k refers to.
-fn entry_length(rasters: Rasters, rows: &[i64], n: usize, samples: &[i64], k: usize) -> Nanos
+fn entry_length(
+    rasters: Rasters,
+    rows: &[i64],
+    hints: &[i64],
+    n: usize,
+    samples: &[i64],
+    k: usize,
+) -> Nanos
     requires { ⌜ NoneAgain (now rows) n ⌝ }
     ensures { λ r. ⌜ r .0 ≡ capped (entryLength rasters (now (rows .entry)) n (now (samples .entry)) k) ⌝ }
 {
-    let class = references::extension_ref(rows, n, tables::number(rows, k, 2));
-    met_length(rasters, rows, n, samples, class, tables::number(rows, k, 3))
+    let class = references::extension_ref(rows, hints, n, tables::number(rows, k, 2));
+    met_length(
+        rasters,
+        rows,
+        hints,
+        n,
+        samples,
+        class,
+        tables::number(rows, k, 3),
+    )
 }
 
 // The longest event of the chain from entry k on, of which so many entries are left to count.
 fn chain_length(
     rasters: Rasters,
     rows: &[i64],
+    hints: &[i64],
     n: usize,
     samples: &[i64],
     k: usize,
@@ -57,15 +74,16 @@ fn chain_length(
     if n <= k {
         return Nanos(0);
     }
-    let own = entry_length(rasters, rows, n, samples, k);
-    let next = chains::next_entry(rows, n, k);
-    own.longer(chain_length(rasters, rows, n, samples, next, left - 1))
+    let own = entry_length(rasters, rows, hints, n, samples, k);
+    let next = chains::next_entry(rows, hints, n, k);
+    own.longer(chain_length(rasters, rows, hints, n, samples, next, left - 1))
 }
 
 // How long that lasts which a number of a block refers to: an event, or a chain of entries.
 fn reference_length(
     rasters: Rasters,
     rows: &[i64],
+    hints: &[i64],
     n: usize,
     samples: &[i64],
     class: i64,
@@ -75,10 +93,10 @@ fn reference_length(
     ensures { λ r. ⌜ r .0 ≡ capped (referenceLength rasters (now (rows .entry)) n (now (samples .entry)) class id) ⌝ }
 {
     if signed::same(class, 7) {
-        let k = tables::met_row(rows, n, class, id);
-        return chain_length(rasters, rows, n, samples, k, 256);
+        let k = finding::met_row(rows, hints, n, class, id);
+        return chain_length(rasters, rows, hints, n, samples, k, 256);
     }
-    met_length(rasters, rows, n, samples, class, id)
+    met_length(rasters, rows, hints, n, samples, class, id)
 }
 
 // The longest event of block k.
@@ -86,6 +104,7 @@ pub fn longest_event(
     edition: Edition,
     rasters: Rasters,
     rows: &[i64],
+    hints: &[i64],
     n: usize,
     samples: &[i64],
     k: usize,
@@ -96,9 +115,9 @@ pub fn longest_event(
     let mut longest = Nanos(0);
     let mut c: usize = 2;
     while c < 9 {
-        let class = references::ref_at(edition, rows, n, k, c);
+        let class = references::ref_at(edition, rows, hints, n, k, c);
         let id = tables::number(rows, k, c);
-        longest = longest.longer(reference_length(rasters, rows, n, samples, class, id));
+        longest = longest.longer(reference_length(rasters, rows, hints, n, samples, class, id));
         c += 1;
     }
     longest
@@ -109,6 +128,7 @@ pub fn block_length(
     edition: Edition,
     rasters: Rasters,
     rows: &[i64],
+    hints: &[i64],
     n: usize,
     samples: &[i64],
     k: usize,
@@ -117,7 +137,7 @@ pub fn block_length(
     ensures { λ r. ⌜ r .0 ≡ capped (blockLength edition rasters (now (rows .entry)) n (now (samples .entry)) k) ⌝ }
 {
     match edition {
-        Edition::V13 => longest_event(Edition::V13, rasters, rows, n, samples, k),
+        Edition::V13 => longest_event(Edition::V13, rasters, rows, hints, n, samples, k),
         Edition::V14 => {
             let duration = RasterCount(signed::size(tables::number(rows, k, 2)));
             duration.nanos(rasters.block)
@@ -130,6 +150,7 @@ pub fn is_long(
     edition: Edition,
     rasters: Rasters,
     rows: &[i64],
+    hints: &[i64],
     n: usize,
     samples: &[i64],
     k: usize,
@@ -138,20 +159,27 @@ pub fn is_long(
     ensures { λ r. ⌜ r ≡ isLong edition rasters (now (rows .entry)) n (now (samples .entry)) k ⌝ }
 {
     if signed::same(tables::number(rows, k, 0), 1) {
-        let ns = block_length(edition, rasters, rows, n, samples, k);
+        let ns = block_length(edition, rasters, rows, hints, n, samples, k);
         return ns.exceeds(Nanos(1000000000000));
     }
     false
 }
 
 // Is row k a block of 1.4 that an event outlasts?
-pub fn outlasts(rasters: Rasters, rows: &[i64], n: usize, samples: &[i64], k: usize) -> bool
+pub fn outlasts(
+    rasters: Rasters,
+    rows: &[i64],
+    hints: &[i64],
+    n: usize,
+    samples: &[i64],
+    k: usize,
+) -> bool
     requires { ⌜ NoneAgain (now rows) n ⌝ }
     ensures { λ r. ⌜ r ≡ outlastsAt rasters (now (rows .entry)) n (now (samples .entry)) k ⌝ }
 {
     if signed::same(tables::number(rows, k, 0), 1) {
-        let ns = block_length(Edition::V14, rasters, rows, n, samples, k);
-        return longest_event(Edition::V14, rasters, rows, n, samples, k).exceeds(ns);
+        let ns = block_length(Edition::V14, rasters, rows, hints, n, samples, k);
+        return longest_event(Edition::V14, rasters, rows, hints, n, samples, k).exceeds(ns);
     }
     false
 }

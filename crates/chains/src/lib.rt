@@ -4,35 +4,35 @@ ghost use mathlib.Core.Path.{_≡_};
 ghost use Rattle.chains.specs.Chains.{nextEntry, exceedsOf, loopsAt};
 
 // The row of the entry that follows entry k; n, the number of rows, if none does.
-pub fn next_entry(rows: &[i64], n: usize, k: usize) -> usize
+pub fn next_entry(rows: &[i64], hints: &[i64], n: usize, k: usize) -> usize
     requires { ⌜ NoneAgain (now rows) n ⌝ }
     ensures { λ r. ⌜ r ≡ nextEntry (now (rows .entry)) n k ⌝ }
 {
-    tables::met_row(rows, n, 7, tables::number(rows, k, 4))
+    finding::met_row(rows, hints, n, 7, tables::number(rows, k, 4))
 }
 
 // Has the chain from entry k more entries than are left to count?
-fn exceeds(rows: &[i64], n: usize, k: usize, left: usize) -> bool
+fn exceeds(rows: &[i64], hints: &[i64], n: usize, k: usize, left: usize) -> bool
     requires { ⌜ NoneAgain (now rows) n ⌝ }
     ensures { λ r. ⌜ r ≡ exceedsOf (now (rows .entry)) n left k ⌝ }
 {
     if left == 0 {
         return true;
     }
-    let next = next_entry(rows, n, k);
+    let next = next_entry(rows, hints, n, k);
     if next < n {
-        return exceeds(rows, n, next, left - 1);
+        return exceeds(rows, hints, n, next, left - 1);
     }
     false
 }
 
 // Is row k an entry whose chain is over 256 entries?
-pub fn loops(rows: &[i64], n: usize, k: usize) -> bool
+pub fn loops(rows: &[i64], hints: &[i64], n: usize, k: usize) -> bool
     requires { ⌜ NoneAgain (now rows) n ⌝ }
     ensures { λ r. ⌜ r ≡ loopsAt (now (rows .entry)) n k ⌝ }
 {
     if signed::same(tables::number(rows, k, 0), 7) {
-        return exceeds(rows, n, k, 256);
+        return exceeds(rows, hints, n, k, 256);
     }
     false
 }

@@ -52,14 +52,14 @@ fn rises(times: &[i64]) -> bool
 }
 
 // Does a time shape fit so many samples? None, which is 0, does.
-fn time_fits(rows: &[i64], n: usize, samples: &[i64], id: i64, count: usize) -> bool
+fn time_fits(rows: &[i64], hints: &[i64], n: usize, samples: &[i64], id: i64, count: usize) -> bool
     requires { ⌜ NoneAgain (now rows) n ⌝ }
     ensures { λ r. ⌜ r ≡ timeFits (now (rows .entry)) n (now (samples .entry)) id count ⌝ }
 {
     if signed::same(id, 0) {
         return true;
     }
-    let times = tables::samples_of(rows, n, samples, id);
+    let times = finding::samples_of(rows, hints, n, samples, id);
     if times.len() == count {
         return rises(times);
     }
@@ -67,14 +67,15 @@ fn time_fits(rows: &[i64], n: usize, samples: &[i64], id: i64, count: usize) -> 
 }
 
 // Do the amplitude of row k and its time shape, which is number c, fit?
-fn shaped_fits(rows: &[i64], n: usize, samples: &[i64], k: usize, c: usize) -> bool
+fn shaped_fits(rows: &[i64], hints: &[i64], n: usize, samples: &[i64], k: usize, c: usize) -> bool
     requires { ⌜ NoneAgain (now rows) n ⌝ }
     ensures { λ r. ⌜ r ≡ shapedFits (now (rows .entry)) n (now (samples .entry)) k c ⌝ }
 {
-    let amplitude = tables::samples_of(rows, n, samples, tables::number(rows, k, 4));
+    let amplitude = finding::samples_of(rows, hints, n, samples, tables::number(rows, k, 4));
     if within_one(amplitude) {
         return time_fits(
             rows,
+            hints,
             n,
             samples,
             tables::number(rows, k, c),
@@ -85,29 +86,29 @@ fn shaped_fits(rows: &[i64], n: usize, samples: &[i64], k: usize, c: usize) -> b
 }
 
 // Do the three shapes of an RF event fit?
-fn rf_fits(rows: &[i64], n: usize, samples: &[i64], k: usize) -> bool
+fn rf_fits(rows: &[i64], hints: &[i64], n: usize, samples: &[i64], k: usize) -> bool
     requires { ⌜ NoneAgain (now rows) n ⌝ }
     ensures { λ r. ⌜ r ≡ rfFits (now (rows .entry)) n (now (samples .entry)) k ⌝ }
 {
-    let magnitude = tables::samples_of(rows, n, samples, tables::number(rows, k, 4));
-    let phase = tables::samples_of(rows, n, samples, tables::number(rows, k, 5));
+    let magnitude = finding::samples_of(rows, hints, n, samples, tables::number(rows, k, 4));
+    let phase = finding::samples_of(rows, hints, n, samples, tables::number(rows, k, 5));
     if magnitude.len() == phase.len() {
-        return shaped_fits(rows, n, samples, k, 6);
+        return shaped_fits(rows, hints, n, samples, k, 6);
     }
     false
 }
 
 // Is row k an event whose shapes do not fit it?
-pub fn misfits(rows: &[i64], n: usize, samples: &[i64], k: usize) -> bool
+pub fn misfits(rows: &[i64], hints: &[i64], n: usize, samples: &[i64], k: usize) -> bool
     requires { ⌜ NoneAgain (now rows) n ⌝ }
     ensures { λ r. ⌜ r ≡ misfitsAt (now (rows .entry)) n (now (samples .entry)) k ⌝ }
 {
     let kind = tables::number(rows, k, 0);
     if signed::same(kind, 2) {
-        return !rf_fits(rows, n, samples, k);
+        return !rf_fits(rows, hints, n, samples, k);
     }
     if signed::same(kind, 3) {
-        return !shaped_fits(rows, n, samples, k, 5);
+        return !shaped_fits(rows, hints, n, samples, k, 5);
     }
     false
 }

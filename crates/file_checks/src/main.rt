@@ -238,10 +238,11 @@ fn check_rules(
     requires { ⌜ NoneAgain (now table) rows ⌝ }
     ensures { λ r. ⌜ r ≡ r ⌝ }
 {
+    let hints = [0i64; 16];
     let mut i: usize = 0;
     while i < 6 {
         let rule = rule_at(i);
-        let k = rules::first_broken(rule, edition, rasters, table, rows, samples);
+        let k = rules::first_broken(rule, edition, rasters, table, &hints, rows, samples);
         if k < rows {
             let line = file::row_line(file, k);
             let number = rule.number();
@@ -277,7 +278,8 @@ fn judge_rows(
         show_refusal(events.number, events.line);
         return;
     }
-    rules::fill_lengths(edition, rasters, table, rows, &samples);
+    let hints = [0i64; 16];
+    rules::fill_lengths(edition, rasters, table, &hints, rows, &samples);
     show_accepted(table, rows, &samples, count);
 }
 

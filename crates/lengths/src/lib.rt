@@ -29,21 +29,22 @@ fn last_time(times: &[i64]) -> u64
 }
 
 // The steps that row k takes, whose time shape is number c: its last time, or as many as its amplitude has samples.
-fn steps(rows: &[i64], n: usize, samples: &[i64], k: usize, c: usize) -> RasterCount
+fn steps(rows: &[i64], hints: &[i64], n: usize, samples: &[i64], k: usize, c: usize) -> RasterCount
     requires { ⌜ NoneAgain (now rows) n ⌝ }
     ensures { λ r. ⌜ r .0 ≡ stepsAt (now (rows .entry)) n (now (samples .entry)) k c ⌝ }
 {
     let time = tables::number(rows, k, c);
     if signed::same(time, 0) {
-        let amplitude = tables::samples_of(rows, n, samples, tables::number(rows, k, 4));
+        let amplitude = finding::samples_of(rows, hints, n, samples, tables::number(rows, k, 4));
         return RasterCount(amplitude.len() as u64);
     }
-    RasterCount(last_time(tables::samples_of(rows, n, samples, time)))
+    RasterCount(last_time(finding::samples_of(rows, hints, n, samples, time)))
 }
 
 // The length of an RF event or a gradient, whose time shape is number c and whose delay is the next.
 fn shaped_length(
     rows: &[i64],
+    hints: &[i64],
     n: usize,
     samples: &[i64],
     k: usize,
@@ -54,7 +55,7 @@ fn shaped_length(
     requires { ⌜ NoneAgain (now rows) n ⌝ }
     ensures { λ r. ⌜ r .0 ≡ capped (shapedLength (now (rows .entry)) n (now (samples .entry)) k c delay (raster .0)) ⌝ }
 {
-    let played = steps(rows, n, samples, k, c).nanos(raster);
+    let played = steps(rows, hints, n, samples, k, c).nanos(raster);
     micros(rows, k, delay).plus(played)
 }
 
@@ -77,16 +78,23 @@ fn adc_length(rows: &[i64], k: usize) -> Nanos
 }
 
 // The length of the event of row k.
-pub fn row_length(rasters: Rasters, rows: &[i64], n: usize, samples: &[i64], k: usize) -> Nanos
+pub fn row_length(
+    rasters: Rasters,
+    rows: &[i64],
+    hints: &[i64],
+    n: usize,
+    samples: &[i64],
+    k: usize,
+) -> Nanos
     requires { ⌜ NoneAgain (now rows) n ⌝ }
     ensures { λ r. ⌜ r .0 ≡ capped (lengthAt rasters (now (rows .entry)) n (now (samples .entry)) k) ⌝ }
 {
     let kind = tables::number(rows, k, 0);
     if signed::same(kind, 2) {
-        return shaped_length(rows, n, samples, k, 6, 7, rasters.rf);
+        return shaped_length(rows, hints, n, samples, k, 6, 7, rasters.rf);
     }
     if signed::same(kind, 3) {
-        return shaped_length(rows, n, samples, k, 5, 6, rasters.gradient);
+        return shaped_length(rows, hints, n, samples, k, 5, 6, rasters.gradient);
     }
     if signed::same(kind, 4) {
         return trap_length(rows, k);

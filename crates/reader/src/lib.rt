@@ -20,6 +20,7 @@ fn ask_rules(
     rasters: Rasters,
     file: &[u8],
     rows: &[i64],
+    hints: &[i64],
     n: usize,
     samples: &[i64],
     count: usize,
@@ -30,7 +31,7 @@ fn ask_rules(
     let mut i: usize = 0;
     while i < 6 {
         let rule = questions::rule_at(i);
-        let k = rules::first_broken(rule, edition, rasters, rows, n, samples);
+        let k = rules::first_broken(rule, edition, rasters, rows, hints, n, samples);
         if k < n {
             return Answer::Refused(questions::rule_refusal(rule), file::row_line(file, k));
         }
@@ -59,9 +60,11 @@ fn judge_rows(
     if failing < n {
         return Answer::Refused(Refusal::Shape, file::row_line(file, failing));
     }
-    let judged = ask_rules(edition, rasters, file, rows, n, samples, count);
+    let mut hints = [0i64; 32768];
+    finding::note_rows(&mut hints, rows, n);
+    let judged = ask_rules(edition, rasters, file, rows, &hints, n, samples, count);
     if judged.is_accepted() {
-        rules::fill_lengths(edition, rasters, rows, n, samples);
+        rules::fill_lengths(edition, rasters, rows, &hints, n, samples);
     }
     judged
 }

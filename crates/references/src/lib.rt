@@ -56,11 +56,11 @@ fn gradient_ref(c: usize) -> i64
 }
 
 // The class of the rows that an entry of an extension type refers to, by the code of the extension; 0 where that is unknown.
-pub fn extension_ref(rows: &[i64], n: usize, number: i64) -> i64
+pub fn extension_ref(rows: &[i64], hints: &[i64], n: usize, number: i64) -> i64
     requires { ⌜ NoneAgain (now rows) n ⌝ }
     ensures { λ r. ⌜ r ≡ extensionRef (now (rows .entry)) n number ⌝ }
 {
-    let code = tables::met_number(rows, n, 8, number, 2);
+    let code = finding::met_number(rows, hints, n, 8, number, 2);
     if signed::same(code, 1) {
         return 9;
     }
@@ -74,20 +74,20 @@ pub fn extension_ref(rows: &[i64], n: usize, number: i64) -> i64
 }
 
 // The class that number c of an entry refers to, whose type is this.
-fn entry_ref(rows: &[i64], n: usize, number: i64, c: usize) -> i64
+fn entry_ref(rows: &[i64], hints: &[i64], n: usize, number: i64, c: usize) -> i64
     requires { ⌜ NoneAgain (now rows) n ⌝ }
     ensures { λ r. ⌜ r ≡ getD (entryRefs (now (rows .entry)) n number) c (pos 0) ⌝ }
 {
     match c {
         2 => 8,
-        3 => extension_ref(rows, n, number),
+        3 => extension_ref(rows, hints, n, number),
         4 => 7,
         _ => 0,
     }
 }
 
 // The class that number c of row k refers to; 0 is none.
-pub fn ref_at(edition: Edition, rows: &[i64], n: usize, k: usize, c: usize) -> i64
+pub fn ref_at(edition: Edition, rows: &[i64], hints: &[i64], n: usize, k: usize, c: usize) -> i64
     requires { ⌜ NoneAgain (now rows) n ⌝ }
     ensures { λ r. ⌜ r ≡ refAt edition (now (rows .entry)) n k c ⌝ }
 {
@@ -102,13 +102,13 @@ pub fn ref_at(edition: Edition, rows: &[i64], n: usize, k: usize, c: usize) -> i
         return gradient_ref(c);
     }
     if signed::same(kind, 7) {
-        return entry_ref(rows, n, tables::number(rows, k, 2), c);
+        return entry_ref(rows, hints, n, tables::number(rows, k, 2), c);
     }
     0
 }
 
 // Does an ID meet none of n rows of a class? An ID of 0, and a class of 0, ask for none.
-fn misses(rows: &[i64], n: usize, class: i64, id: i64) -> bool
+fn misses(rows: &[i64], hints: &[i64], n: usize, class: i64, id: i64) -> bool
     requires { ⌜ NoneAgain (now rows) n ⌝ }
     ensures { λ r. ⌜ r ≡ missesOf (now (rows .entry)) n class id ⌝ }
 {
@@ -118,18 +118,18 @@ fn misses(rows: &[i64], n: usize, class: i64, id: i64) -> bool
     if signed::same(id, 0) {
         return false;
     }
-    n <= tables::find_once(rows, n, class, id)
+    n <= finding::find_once(rows, hints, n, class, id)
 }
 
 // Does row k refer to a row that is not among the n?
-pub fn dangles(edition: Edition, rows: &[i64], n: usize, k: usize) -> bool
+pub fn dangles(edition: Edition, rows: &[i64], hints: &[i64], n: usize, k: usize) -> bool
     requires { ⌜ NoneAgain (now rows) n ⌝ }
     ensures { λ r. ⌜ r ≡ danglesAt edition (now (rows .entry)) n k ⌝ }
 {
     let mut c: usize = 0;
     while c < 12 {
-        let class = ref_at(edition, rows, n, k, c);
-        if misses(rows, n, class, tables::number(rows, k, c)) {
+        let class = ref_at(edition, rows, hints, n, k, c);
+        if misses(rows, hints, n, class, tables::number(rows, k, c)) {
             return true;
         }
         c += 1;

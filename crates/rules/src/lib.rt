@@ -48,6 +48,7 @@ fn breaks_outlasts(
     edition: Edition,
     rasters: Rasters,
     rows: &[i64],
+    hints: &[i64],
     n: usize,
     samples: &[i64],
     k: usize,
@@ -57,7 +58,7 @@ fn breaks_outlasts(
 {
     match edition {
         Edition::V13 => false,
-        Edition::V14 => blocks::outlasts(rasters, rows, n, samples, k),
+        Edition::V14 => blocks::outlasts(rasters, rows, hints, n, samples, k),
     }
 }
 
@@ -67,6 +68,7 @@ pub fn is_broken(
     edition: Edition,
     rasters: Rasters,
     rows: &[i64],
+    hints: &[i64],
     n: usize,
     samples: &[i64],
     k: usize,
@@ -75,12 +77,12 @@ pub fn is_broken(
     ensures { λ r. ⌜ r ≡ isBroken rule edition rasters (now (rows .entry)) n (now (samples .entry)) k ⌝ }
 {
     match rule {
-        Rule::Reference => references::dangles(edition, rows, n, k),
-        Rule::Loop => chains::loops(rows, n, k),
-        Rule::Use => events::misfits(rows, n, samples, k),
+        Rule::Reference => references::dangles(edition, rows, hints, n, k),
+        Rule::Loop => chains::loops(rows, hints, n, k),
+        Rule::Use => events::misfits(rows, hints, n, samples, k),
         Rule::Align => breaks_align(edition, rasters, rows, k),
-        Rule::Long => blocks::is_long(edition, rasters, rows, n, samples, k),
-        Rule::Outlasts => breaks_outlasts(edition, rasters, rows, n, samples, k),
+        Rule::Long => blocks::is_long(edition, rasters, rows, hints, n, samples, k),
+        Rule::Outlasts => breaks_outlasts(edition, rasters, rows, hints, n, samples, k),
     }
 }
 
@@ -90,6 +92,7 @@ pub fn first_broken(
     edition: Edition,
     rasters: Rasters,
     rows: &[i64],
+    hints: &[i64],
     n: usize,
     samples: &[i64],
 ) -> usize
@@ -98,7 +101,7 @@ pub fn first_broken(
 {
     let mut k: usize = 0;
     while k < n {
-        if is_broken(rule, edition, rasters, rows, n, samples, k) {
+        if is_broken(rule, edition, rasters, rows, hints, n, samples, k) {
             return k;
         }
         k += 1;
@@ -111,6 +114,7 @@ fn length_number(
     edition: Edition,
     rasters: Rasters,
     rows: &[i64],
+    hints: &[i64],
     n: usize,
     samples: &[i64],
     k: usize,
@@ -118,7 +122,7 @@ fn length_number(
     requires { ⌜ NoneAgain (now rows) n ⌝ }
     ensures { λ r. ⌜ r ≡ lengthNumber edition rasters (now (rows .entry)) n (now (samples .entry)) k ⌝ }
 {
-    let ns = blocks::block_length(edition, rasters, rows, n, samples, k);
+    let ns = blocks::block_length(edition, rasters, rows, hints, n, samples, k);
     signed::with_sign(false, ns.0)
 }
 
@@ -127,6 +131,7 @@ fn fill_row(
     edition: Edition,
     rasters: Rasters,
     rows: &mut [i64],
+    hints: &[i64],
     n: usize,
     samples: &[i64],
     k: usize,
@@ -136,7 +141,7 @@ fn fill_row(
 {
     if k < rows.len() / 12 {
         if signed::same(tables::number(rows, k, 0), 1) {
-            let ns = length_number(edition, rasters, rows, n, samples, k);
+            let ns = length_number(edition, rasters, rows, hints, n, samples, k);
             let i = k * 12 + 9;
             rows[i] = ns;
         }
@@ -144,13 +149,20 @@ fn fill_row(
 }
 
 // Writes the length of each block among n rows into its row, as its tenth number.
-pub fn fill_lengths(edition: Edition, rasters: Rasters, rows: &mut [i64], n: usize, samples: &[i64])
+pub fn fill_lengths(
+    edition: Edition,
+    rasters: Rasters,
+    rows: &mut [i64],
+    hints: &[i64],
+    n: usize,
+    samples: &[i64],
+)
     requires { ⌜ NoneAgain (now rows) n ⌝ }
     ensures { λ r. ⌜ now (rows .exit) ≡ filled edition rasters (now (rows .entry)) n (now (samples .entry)) (now (rows .entry)) 0 n ⌝ }
 {
     let mut k: usize = 0;
     while k < n {
-        fill_row(edition, rasters, rows, n, samples, k);
+        fill_row(edition, rasters, rows, hints, n, samples, k);
         k += 1;
     }
 }

@@ -49,7 +49,11 @@ pub samples-there : (rows : List ℤ) (k : ℕ) (samples : List ℤ) (count from
 unfolding samplesAt
 samples-there rows k samples count from p q = rw (p, q)
 
-pub samples-are : (rows : List ℤ) (n : ℕ) (samples : List ℤ) (id : ℤ) (ref : ℤ) → ref ≡ id → (count from : ℕ) → count ≡ natAbs (metNumber rows n (pos 11) ref 2)
-    → from ≡ natAbs (metNumber rows n (pos 11) ref 3) → take count (drop from samples) ≡ samplesOf rows n samples id
-unfolding samplesOf
-samples-are rows n samples id ref e count from p q = rw (p, q, e)
+module _ (rows : List ℤ) (n : ℕ) (samples : List ℤ) {id ref : ℤ} (q : ref ≡ id) (k : ℕ) (m : k ≡ metRow rows n (pos 11) ref) where
+  pub samples-met : k < n → samplesAt rows k samples ≡ samplesOf rows n samples id
+  unfolding samplesOf samplesAt metNumber
+  samples-met h = rw (← q, ← m, lt-ltb k n h)
+
+  pub samples-unmet : n ≤ k → [] ≡ samplesOf rows n samples id
+  unfolding samplesOf metNumber
+  samples-unmet h = rw (← q, ← m, le-ltb k n h)

@@ -13,19 +13,19 @@ use Rattle.unit.proofs.Nanos.longer.Reads as longer-reads
 use Rattle.blocks.proofs.+chain_length.{statement}
 use Rattle.blocks.proofs.+chain_length.Tie.{close}
 
-abbrev μ-chain-length : Measures 2 chain-length-kinds.ps ℕ
-μ-chain-length κs a = a .1 .1 .1 .1 .1 .0
+abbrev μ-chain-length : Measures 3 chain-length-kinds.ps ℕ
+μ-chain-length κs a = a .1 .1 .1 .1 .1 .1 .0
 
-abbrev chain-length-at : ℕ → In 2 chain-length-kinds.ps
+abbrev chain-length-at : ℕ → In 3 chain-length-kinds.ps
 chain-length-at t =
-    and 2 chain-length-kinds.ps (is 2 chain-length-kinds.ps μ-chain-length t) chain-length.Pre
+    and 3 chain-length-kinds.ps (is 3 chain-length-kinds.ps μ-chain-length t) chain-length.Pre
 
-abbrev chain-length-below : ℕ → In 2 chain-length-kinds.ps
+abbrev chain-length-below : ℕ → In 3 chain-length-kinds.ps
 chain-length-below t =
     and
-    2
+    3
     chain-length-kinds.ps
-    (falls 2 chain-length-kinds.ps _<_ μ-chain-length t)
+    (falls 3 chain-length-kinds.ps _<_ μ-chain-length t)
     chain-length.Pre
 
 abbrev chain-length-calls : ℕ → chain-length-lts.Claims

@@ -12,14 +12,14 @@ use Rattle.chains.proofs.next_entry.Reads as next-entry-reads
 use Rattle.chains.proofs.+exceeds.{statement}
 use Rattle.chains.proofs.+exceeds.Tie.{close}
 
-abbrev μ-exceeds : Measures 1 exceeds-kinds.ps ℕ
-μ-exceeds κs a = a .1 .1 .1 .0
+abbrev μ-exceeds : Measures 2 exceeds-kinds.ps ℕ
+μ-exceeds κs a = a .1 .1 .1 .1 .0
 
-abbrev exceeds-at : ℕ → In 1 exceeds-kinds.ps
-exceeds-at t = and 1 exceeds-kinds.ps (is 1 exceeds-kinds.ps μ-exceeds t) exceeds.Pre
+abbrev exceeds-at : ℕ → In 2 exceeds-kinds.ps
+exceeds-at t = and 2 exceeds-kinds.ps (is 2 exceeds-kinds.ps μ-exceeds t) exceeds.Pre
 
-abbrev exceeds-below : ℕ → In 1 exceeds-kinds.ps
-exceeds-below t = and 1 exceeds-kinds.ps (falls 1 exceeds-kinds.ps _<_ μ-exceeds t) exceeds.Pre
+abbrev exceeds-below : ℕ → In 2 exceeds-kinds.ps
+exceeds-below t = and 2 exceeds-kinds.ps (falls 2 exceeds-kinds.ps _<_ μ-exceeds t) exceeds.Pre
 
 abbrev calls : ℕ → exceeds-lts.Claims
 calls t = (next-entry-reads.Asked, next-entry-reads.Learnt, exceeds-below t, exceeds.Post)

@@ -7,7 +7,7 @@ use Rattle.chains.proofs.next_entry.Statement.{statement}
 use Rattle.chains.proofs.next_entry.Tie as tie
 use Rattle.chains.proofs.next_entry.Reads as reads
 use Rattle.chains.proofs.next_entry.Lts as lts
-use Rattle.tables.proofs.met_row.Reads as met-row-reads
+use Rattle.finding.proofs.met_row.Reads as met-row-reads
 use Rattle.tables.proofs.number.Reads as number-reads
 
 number-requires : tie.Need-number-requires

@@ -5,16 +5,19 @@ use Rattle.file_checks.proofs.check_rules.Statement.{statement}
 use Rattle.file_checks.proofs.check_rules.Tie as tie
 
 abbrev Inv-loop : tie.InvT-loop
-Inv-loop file edition rasters table rows samples i₀ i = Unit {0}
+Inv-loop file edition rasters table rows samples hints i₀ i = Unit {0}
 
 abbrev μ-loop : tie.MeasureT-loop
-μ-loop file edition rasters table rows samples i₀ i = 6 - i
+μ-loop file edition rasters table rows samples hints i₀ i = 6 - i
 
 loop-holds : tie.Need-loop-holds Inv-loop μ-loop
 loop-holds c = tt
 
 rule-at-requires : tie.Need-rule-at-requires Inv-loop μ-loop
 rule-at-requires c κs = search needs
+
+slice-aggregate-first-broken : tie.Need-slice-aggregate-first-broken Inv-loop μ-loop
+slice-aggregate-first-broken c = search needs
 
 first-broken-requires : tie.Need-first-broken-requires Inv-loop μ-loop
 first-broken-requires c κs = search needs
@@ -48,6 +51,7 @@ check-rules-spec =
     μ-loop
     loop-holds
     rule-at-requires
+    slice-aggregate-first-broken
     first-broken-requires
     row-line-requires
     number-requires

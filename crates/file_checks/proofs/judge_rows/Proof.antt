@@ -52,8 +52,11 @@ returns-3 c = search needs
 slice-aggregate-fill-lengths : tie.Need-slice-aggregate-fill-lengths
 slice-aggregate-fill-lengths c = search needs
 
+slice-aggregate-fill-lengths-2 : tie.Need-slice-aggregate-fill-lengths-2
+slice-aggregate-fill-lengths-2 c = search needs
+
 fill-lengths-requires : tie.Need-fill-lengths-requires
-fill-lengths-requires c κs = let e = c .before .before .before .before .before .before .before .before .before .before .before .before .before in first-none _ _ (e .before .first-again .ensures) (e .if1 .left)
+fill-lengths-requires c κs = let e = c .before .before .before .before .before .before .before .before .before .before .before .before .before .before in first-none _ _ (e .before .first-again .ensures) (e .if1 .left)
 
 slice-aggregate-show-accepted : tie.Need-slice-aggregate-show-accepted
 slice-aggregate-show-accepted c = search needs
@@ -87,6 +90,7 @@ judge-rows-spec =
     same-length-3
     returns-3
     slice-aggregate-fill-lengths
+    slice-aggregate-fill-lengths-2
     fill-lengths-requires
     slice-aggregate-show-accepted
     show-accepted-requires

@@ -11,10 +11,10 @@ use Rattle.reader.proofs.ask_rules.Statement.{statement}
 use Rattle.reader.proofs.ask_rules.Tie as tie
 
 abbrev Inv-loop : tie.InvT-loop
-Inv-loop edition rasters file rows n samples count i₀ i = RulesLeft (λ rule. firstBroken rule edition rasters rows n samples) n (rowsOf file) (Accepted n count) i
+Inv-loop edition rasters file rows hints n samples count i₀ i = RulesLeft (λ rule. firstBroken rule edition rasters rows n samples) n (rowsOf file) (Accepted n count) i
 
 abbrev μ-loop : tie.MeasureT-loop
-μ-loop edition rasters file rows n samples count i₀ i = 6 - i
+μ-loop edition rasters file rows hints n samples count i₀ i = 6 - i
 
 loop-holds : tie.Need-loop-holds Inv-loop μ-loop
 loop-holds c = refl

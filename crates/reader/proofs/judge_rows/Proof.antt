@@ -21,11 +21,23 @@ returns : tie.Need-returns
 returns c = let x = c .before .before .before in
     judged-no _ _ (shape-fails _ _ _ _ _ _ _ _ (x .expand-shapes .ensures .answer) (c .before .if1 .taken) _ (c .row-line .ensures))
 
+slice-aggregate-note-rows : tie.Need-slice-aggregate-note-rows
+slice-aggregate-note-rows c = search needs
+
+note-rows-requires : tie.Need-note-rows-requires
+note-rows-requires c κs = search needs
+
+slice-aggregate-ask-rules : tie.Need-slice-aggregate-ask-rules
+slice-aggregate-ask-rules c = search needs
+
 ask-rules-requires : tie.Need-ask-rules-requires
 ask-rules-requires c κs = search needs
 
 is-accepted-requires : tie.Need-is-accepted-requires
 is-accepted-requires c κs = search needs
+
+slice-aggregate-fill-lengths : tie.Need-slice-aggregate-fill-lengths
+slice-aggregate-fill-lengths c = search needs
 
 fill-lengths-requires : tie.Need-fill-lengths-requires
 fill-lengths-requires c κs = search needs
@@ -38,8 +50,8 @@ same-length-4 c = search needs
 
 returns-2 : tie.Need-returns-2
 returns-2 c = let f = c .before in
-    let a = f .before .before .before .before .before in
-    let e = a .before .before .before in
+    let a = f .before .before .before .before .before .before in
+    let e = a .before .before .before .before .before .before .before .before in
     let x = e .before .before in
     rows-accepted _ _ _ _ _ _ _ _ (x .expand-shapes .ensures .answer) (e .if1 .left) _ (x .expand-shapes .ensures .samples) _ (a .ask-rules .ensures) _ (f .fill-lengths .ensures)
 
@@ -51,7 +63,7 @@ same-length-6 c = search needs
 
 returns-3 : tie.Need-returns-3
 returns-3 c = let a = c .before .before in
-    let e = a .before .before .before in
+    let e = a .before .before .before .before .before .before .before .before in
     let x = e .before .before in
     rows-refused _ _ _ _ _ _ _ _ (x .expand-shapes .ensures .answer) (e .if1 .left) _ (x .expand-shapes .ensures .samples) _ (a .ask-rules .ensures) (sym (c .before .is-accepted .ensures) ∙ c .if2 .left) _
 
@@ -64,8 +76,12 @@ judge-rows-spec =
     same-length
     same-length-2
     returns
+    slice-aggregate-note-rows
+    note-rows-requires
+    slice-aggregate-ask-rules
     ask-rules-requires
     is-accepted-requires
+    slice-aggregate-fill-lengths
     fill-lengths-requires
     same-length-3
     same-length-4

@@ -13,10 +13,10 @@ use Rattle.references.proofs.dangles.Statement.{statement}
 use Rattle.references.proofs.dangles.Tie as tie
 
 abbrev Inv-loop : tie.InvT-loop
-Inv-loop edition rows n k c₀ c = (c ≤ 12) × (firstSuch (missesAt edition rows n k) c (12 - c) ≡ firstSuch (missesAt edition rows n k) 0 12)
+Inv-loop edition rows hints n k c₀ c = (c ≤ 12) × (firstSuch (missesAt edition rows n k) c (12 - c) ≡ firstSuch (missesAt edition rows n k) 0 12)
 
 abbrev μ-loop : tie.MeasureT-loop
-μ-loop edition rows n k c₀ c = 12 - c
+μ-loop edition rows hints n k c₀ c = 12 - c
 
 -- what was looked at
 looked : (m : tie.After-misses Inv-loop μ-loop) → let a = m .before .before .before .before .before .args in m .misses .result ≡ missesAt (a .edition) (now (a .rows)) (a .n) (a .k) (m .before .before .before .before .loop .c)

@@ -9,7 +9,7 @@ use Rattle.references.proofs.extension_ref.Tie as tie
 use Rattle.references.proofs.extension_ref.Reads as reads
 use Rattle.references.proofs.extension_ref.Lts as lts
 use Rattle.signed.proofs.same.Reads as same-reads
-use Rattle.tables.proofs.met_number.Reads as met-number-reads
+use Rattle.finding.proofs.met_number.Reads as met-number-reads
 
 met-number-requires : tie.Need-met-number-requires
 met-number-requires c κs = search needs

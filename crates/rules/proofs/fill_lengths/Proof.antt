@@ -8,10 +8,10 @@ use Rattle.rules.proofs.fill_lengths.Statement.{statement}
 use Rattle.rules.proofs.fill_lengths.Tie as tie
 
 abbrev Inv-loop : tie.InvT-loop
-Inv-loop edition rasters rows₀ n samples k₀ rows k = Filling edition rasters rows₀ n samples rows k
+Inv-loop edition rasters rows₀ hints n samples k₀ rows k = Filling edition rasters rows₀ n samples rows k
 
 abbrev μ-loop : tie.MeasureT-loop
-μ-loop edition rasters rows₀ n samples k₀ rows k = n - k
+μ-loop edition rasters rows₀ hints n samples k₀ rows k = n - k
 
 loop-holds : tie.Need-loop-holds Inv-loop μ-loop
 loop-holds c = fill-start _ _ _ _ _

@@ -10,10 +10,10 @@ use Rattle.rules.proofs.first_broken.Statement.{statement}
 use Rattle.rules.proofs.first_broken.Tie as tie
 
 abbrev Inv-loop : tie.InvT-loop
-Inv-loop rule edition rasters rows n samples k₀ k = (k ≤ n) × (firstSuch (isBroken rule edition rasters rows n samples) k (n - k) ≡ firstBroken rule edition rasters rows n samples)
+Inv-loop rule edition rasters rows hints n samples k₀ k = (k ≤ n) × (firstSuch (isBroken rule edition rasters rows n samples) k (n - k) ≡ firstBroken rule edition rasters rows n samples)
 
 abbrev μ-loop : tie.MeasureT-loop
-μ-loop rule edition rasters rows n samples k₀ k = n - k
+μ-loop rule edition rasters rows hints n samples k₀ k = n - k
 
 loop-holds : tie.Need-loop-holds Inv-loop μ-loop
 unfolding firstBroken

@@ -1,10 +1,10 @@
--- `tables::met_row` meets its contract. Assumes nothing.
+-- `finding::met_row` meets its contract. Assumes nothing.
 use Rattle.signed.proofs.Machine.{rd-is}
 use mathlib.Core.Path.{_∙_, sym}
 use Rattle.tables.proofs.Meeting.{met-none, met-found}
 use borrow.Author.Needs.{needs}
-use Rattle.tables.proofs.met_row.Statement.{statement}
-use Rattle.tables.proofs.met_row.Tie as tie
+use Rattle.finding.proofs.met_row.Statement.{statement}
+use Rattle.finding.proofs.met_row.Tie as tie
 
 same-requires : tie.Need-same-requires
 same-requires c κs = search needs

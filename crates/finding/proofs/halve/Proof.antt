@@ -1,14 +1,14 @@
--- `tables::halve` meets its contract. The loop's invariant: what is left stays within what was handed in. Assumes nothing.
+-- `finding::halve` meets its contract. The loop's invariant: what is left stays within what was handed in. Assumes nothing.
 use Prim.Native.Nat.{_+_, _-_, _≤_}
 use borrow.Author.Needs.{needs}
-use Rattle.tables.proofs.halve.Statement.{statement}
-use Rattle.tables.proofs.halve.Tie as tie
+use Rattle.finding.proofs.halve.Statement.{statement}
+use Rattle.finding.proofs.halve.Tie as tie
 
 abbrev Inv-loop : tie.InvT-loop
-Inv-loop rows from end low run id k₀ left₀ k left = (from ≤ k) × ((1 ≤ left) × (k + left ≤ end))
+Inv-loop rows from end run id k₀ left₀ k left = (from ≤ k) × ((1 ≤ left) × (k + left ≤ end))
 
 abbrev μ-loop : tie.MeasureT-loop
-μ-loop rows from end low run id k₀ left₀ k left = left
+μ-loop rows from end run id k₀ left₀ k left = left
 
 sub-left : tie.Need-sub-left Inv-loop μ-loop
 sub-left c = search needs

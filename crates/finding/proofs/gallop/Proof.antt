@@ -1,8 +1,8 @@
--- `tables::gallop` meets its contract. The loop's invariant: the step stays among the rows that are left. Assumes nothing.
+-- `finding::gallop` meets its contract. The loop's invariant: the step stays among the rows that are left. Assumes nothing.
 use Prim.Native.Nat.{_+_, _-_, _≤_}
 use borrow.Author.Needs.{needs}
-use Rattle.tables.proofs.gallop.Statement.{statement}
-use Rattle.tables.proofs.gallop.Tie as tie
+use Rattle.finding.proofs.gallop.Statement.{statement}
+use Rattle.finding.proofs.gallop.Tie as tie
 
 abbrev Inv-loop : tie.InvT-loop
 Inv-loop rows k n run id left step₀ step = (1 ≤ step) × (k + step ≤ n)

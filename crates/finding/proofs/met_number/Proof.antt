@@ -1,11 +1,11 @@
--- `tables::met_number` meets its contract. Assumes nothing.
+-- `finding::met_number` meets its contract. Assumes nothing.
 use Rattle.signed.proofs.Machine.{rd-is}
 use mathlib.Core.Path.{_∙_}
 use Rattle.signed.proofs.Machine.{rd-at}
 use Rattle.tables.proofs.Meeting.{number-met, number-unmet}
 use borrow.Author.Needs.{needs}
-use Rattle.tables.proofs.met_number.Statement.{statement}
-use Rattle.tables.proofs.met_number.Tie as tie
+use Rattle.finding.proofs.met_number.Statement.{statement}
+use Rattle.finding.proofs.met_number.Tie as tie
 
 met-row-requires : tie.Need-met-row-requires
 met-row-requires c κs = search needs

@@ -1,10 +1,10 @@
--- `tables::find_once` meets its contract. Assumes nothing.
+-- `finding::find_once` meets its contract. Assumes nothing.
 use mathlib.Core.Path.{sym, _∙_}
 use Rattle.signed.proofs.Machine.{rd-is}
 use Rattle.tables.proofs.Found.{row-once}
 use borrow.Author.Needs.{needs}
-use Rattle.tables.proofs.find_once.Statement.{statement}
-use Rattle.tables.proofs.find_once.Tie as tie
+use Rattle.finding.proofs.find_once.Statement.{statement}
+use Rattle.finding.proofs.find_once.Tie as tie
 
 guess-of-requires : tie.Need-guess-of-requires
 guess-of-requires c κs = search needs
