@@ -1,22 +1,48 @@
-// How fast the library reads and restates: files of 100 KB, 1 MB and 16 MB, made in memory, with
-// tables and an output that are large enough. Each size comes behind one of half its size, from
-// which its time is foretold; one that would take over two minutes is not run. The time includes
-// the clearing of what is lent, which the library does itself.
+// How fast the library reads and restates files that are made here, beside a plain reader in C.
+// Modes:
+//   realistic    files as toolboxes write them: MB/s at growing sizes, and ratios to the plain reader
+// A call that is expected to take longer than BENCH_LONGEST seconds, or else 60, is not made.
 
-#[cfg(library)]
+mod library;
 mod measure;
-#[cfg(library)]
+mod plain;
+mod random;
+mod realistic;
 mod sequence;
+mod tables;
 
-/// Measures the sizes and prints them.
-#[cfg(library)]
-fn main() {
-    measure::run();
+use std::process::ExitCode;
+
+/// The longest call that is waited for, in seconds, if nothing else is said.
+const LONGEST: f64 = 60.0;
+
+/// What the modes are called with.
+const USAGE: &str = "[realistic]";
+
+/// Runs a mode; the status is 2 if the words or the file are wrong.
+fn main() -> ExitCode {
+    let words: Vec<String> = std::env::args().skip(1).collect();
+    let words: Vec<&str> = words.iter().map(String::as_str).collect();
+    match ran(&words) {
+        Ok(()) => ExitCode::SUCCESS,
+        Err(words) => {
+            eprintln!("{words}");
+            ExitCode::from(2)
+        }
+    }
 }
 
-/// Without the archive nothing is measured.
-#[cfg(not(library))]
-fn main() {
-    eprintln!("the archive target/staticlib/libpulseq.a is not built");
-    std::process::exit(1);
+/// Runs the mode that the words name, or answers what is wrong with them.
+fn ran(words: &[&str]) -> Result<(), String> {
+    match *words {
+        [] | ["realistic"] => realistic::report::run(longest()),
+        _ => return Err(USAGE.to_string()),
+    }
+    Ok(())
+}
+
+/// The longest call that is waited for, in seconds.
+fn longest() -> f64 {
+    let named = std::env::var("BENCH_LONGEST").ok();
+    named.and_then(|seconds| seconds.parse().ok()).unwrap_or(LONGEST)
 }
