@@ -1,8 +1,11 @@
 // How fast the library reads and restates files that are made here, beside a plain reader in C.
 // Modes:
 //   realistic    files as toolboxes write them: MB/s at growing sizes, and ratios to the plain reader
+//   hostile      files that would take long if reading were careless: seconds, and their growth
+//   (no word)    both, one after the other
 // A call that is expected to take longer than BENCH_LONGEST seconds, or else 60, is not made.
 
+mod hostile;
 mod library;
 mod measure;
 mod plain;
@@ -17,7 +20,7 @@ use std::process::ExitCode;
 const LONGEST: f64 = 60.0;
 
 /// What the modes are called with.
-const USAGE: &str = "[realistic]";
+const USAGE: &str = "[realistic | hostile]";
 
 /// Runs a mode; the status is 2 if the words or the file are wrong.
 fn main() -> ExitCode {
@@ -35,7 +38,12 @@ fn main() -> ExitCode {
 /// Runs the mode that the words name, or answers what is wrong with them.
 fn ran(words: &[&str]) -> Result<(), String> {
     match *words {
-        [] | ["realistic"] => realistic::report::run(longest()),
+        [] => {
+            realistic::report::run(longest());
+            hostile::report::run(longest());
+        }
+        ["realistic"] => realistic::report::run(longest()),
+        ["hostile"] => hostile::report::run(longest()),
         _ => return Err(USAGE.to_string()),
     }
     Ok(())
