@@ -3,8 +3,11 @@
 //   realistic    files as toolboxes write them: MB/s at growing sizes, and ratios to the plain reader
 //   hostile      files that would take long if reading were careless: seconds, and their growth
 //   (no word)    both, one after the other
+//   write KIND EDITION SIZE FILE    writes a file of a kind or a hostile case to disk
+//   once FILE    reads a file once and prints the answer, for a profiler
 // A call that is expected to take longer than BENCH_LONGEST seconds, or else 60, is not made.
 
+mod disk;
 mod hostile;
 mod library;
 mod measure;
@@ -20,7 +23,7 @@ use std::process::ExitCode;
 const LONGEST: f64 = 60.0;
 
 /// What the modes are called with.
-const USAGE: &str = "[realistic | hostile]";
+const USAGE: &str = "[realistic | hostile | write KIND 1.3|1.4 SIZE FILE | once FILE]";
 
 /// Runs a mode; the status is 2 if the words or the file are wrong.
 fn main() -> ExitCode {
@@ -44,6 +47,8 @@ fn ran(words: &[&str]) -> Result<(), String> {
         }
         ["realistic"] => realistic::report::run(longest()),
         ["hostile"] => hostile::report::run(longest()),
+        ["write", kind, edition, size, path] => return disk::write(kind, edition, size, path),
+        ["once", path] => return disk::once(path),
         _ => return Err(USAGE.to_string()),
     }
     Ok(())
