@@ -3,10 +3,12 @@
 //   realistic    files as toolboxes write them: MB/s at growing sizes, and ratios to the plain reader
 //   hostile      files that would take long if reading were careless: seconds, and their growth
 //   (no word)    both, one after the other
+//   stack        how much of the stack the deepest inputs use
 //   write KIND EDITION SIZE FILE    writes a file of a kind or a hostile case to disk
 //   once FILE    reads a file once and prints the answer, for a profiler
 // A call that is expected to take longer than BENCH_LONGEST seconds, or else 60, is not made.
 
+mod depths;
 mod disk;
 mod hostile;
 mod library;
@@ -15,6 +17,7 @@ mod plain;
 mod random;
 mod realistic;
 mod sequence;
+mod stack;
 mod tables;
 
 use std::process::ExitCode;
@@ -23,7 +26,7 @@ use std::process::ExitCode;
 const LONGEST: f64 = 60.0;
 
 /// What the modes are called with.
-const USAGE: &str = "[realistic | hostile | write KIND 1.3|1.4 SIZE FILE | once FILE]";
+const USAGE: &str = "[realistic | hostile | stack | write KIND 1.3|1.4 SIZE FILE | once FILE]";
 
 /// Runs a mode; the status is 2 if the words or the file are wrong.
 fn main() -> ExitCode {
@@ -47,6 +50,7 @@ fn ran(words: &[&str]) -> Result<(), String> {
         }
         ["realistic"] => realistic::report::run(longest()),
         ["hostile"] => hostile::report::run(longest()),
+        ["stack"] => depths::run(),
         ["write", kind, edition, size, path] => return disk::write(kind, edition, size, path),
         ["once", path] => return disk::once(path),
         _ => return Err(USAGE.to_string()),
