@@ -7,8 +7,8 @@ use crate::realistic::KINDS;
 use crate::sequence::Sequence;
 use crate::tables;
 
-/// Sizes that are measured only to foretell the others.
-const FIRST: [usize; 3] = [100_000, 400_000, 1_600_000];
+/// Sizes that are measured only to foretell the others, in small steps, since growth is not even.
+const FIRST: [usize; 5] = [100_000, 200_000, 400_000, 800_000, 1_600_000];
 
 /// The sizes that are reported.
 const SIZES: [(&str, usize); 2] = [("4 MB", 4_000_000), ("16 MB", 15_500_000)];

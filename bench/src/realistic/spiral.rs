@@ -1,6 +1,6 @@
-// Spirals by arbitrary gradients: each turn of the head has two long shapes of its own, so that
-// shapes are most of the file. Every other interleaf is designed on a coarse raster, and its shapes
-// are runs of equal differences; the rest have no runs, and 1.4 stores them plain.
+// Spirals by arbitrary gradients: each interleaf has two long shapes of its own, so that shapes are
+// most of the file. Every other interleaf is designed on a coarse raster, and its shapes are runs of
+// equal differences; the rest have no runs, and 1.4 stores them plain.
 
 use crate::realistic::pulses::sinc;
 use crate::realistic::scan::{Block, Gradient, Pulse, Readout, Scan};
