@@ -3,6 +3,8 @@
 // A record is a line `FILE SITE` with two counts of bytes, then the bytes of the file, then the bytes of the site.
 ghost use mathlib.Core.Path.{_≡_};
 ghost use Prim.Native.Nat.{_+_, _-_, _≤_, min};
+ghost use mathlib.Core.Bool.{true};
+ghost use Rattle.passing.specs.Sound.{soundOf};
 ghost use Rattle.tables.specs.Tables.{NoneAgain};
 use file::Scanned;
 use libc::STDIN_FILENO;
@@ -179,7 +181,9 @@ fn has_bad_site(edition: Edition, site: &[u8]) -> bool {
 }
 
 // SITE and DUPLICATE.
-fn check_texts(edition: Edition, file: &[u8], site: &[u8], table: &[i64], rows: usize) -> Verdict {
+fn check_texts(edition: Edition, file: &[u8], site: &[u8], table: &[i64], rows: usize) -> Verdict
+    requires { ⌜ soundOf (now file) ≡ true ⌝ }
+{
     if has_bad_site(edition, site) {
         return Verdict { number: 8, line: 0 };
     }
@@ -197,7 +201,9 @@ fn check_shapes(
     table: &[i64],
     rows: usize,
     samples: &mut [i64],
-) -> Verdict {
+) -> Verdict
+    requires { ⌜ soundOf (now file) ≡ true ⌝ }
+{
     let k = sampling::expand_shapes(file, edition, table, rows, samples);
     if k < rows {
         let line = file::row_line(file, k);
@@ -261,7 +267,9 @@ fn judge_rows(
     table: &mut [i64],
     rows: usize,
     count: usize,
-) {
+)
+    requires { ⌜ soundOf (now file) ≡ true ⌝ }
+{
     let again = tables::first_again(table, rows);
     if again < rows {
         show_refusal(9, file::row_line(file, again));
@@ -291,7 +299,9 @@ fn judge_texts<'a>(
     table: &mut [i64],
     rows: usize,
     count: usize,
-) {
+)
+    requires { ⌜ soundOf (now file) ≡ true ⌝ }
+{
     let texts = check_texts(edition, file, site, table, rows);
     if texts.number != 0 {
         show_refusal(texts.number, texts.line);

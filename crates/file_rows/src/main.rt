@@ -2,6 +2,9 @@
 // the values of the four rasters and whether the site's definitions are good.
 // A record is a line `FILE SITE` with two counts of bytes, then the bytes of the file, then the bytes of the site.
 ghost use Prim.Native.Nat.{_≤_};
+ghost use mathlib.Core.Bool.{true};
+ghost use mathlib.Core.Path.{_≡_};
+ghost use Rattle.passing.specs.Sound.{soundOf};
 ghost use lib.ListN.{length};
 use file::Scanned;
 use libc::STDIN_FILENO;
@@ -90,7 +93,9 @@ fn show_whole(edition: Edition, rows: usize, samples: u64, defined: bool) {
 }
 
 // Writes the stored lines of a shape behind their length.
-fn show_stored(file: &[u8], id: i64) {
+fn show_stored(file: &[u8], id: i64)
+    requires { ⌜ soundOf (now file) ≡ true ⌝ }
+{
     let stored = stored::stored_lines(file, id);
     show_number(b"stored ", stored.len() as u64);
     write(stored);
@@ -106,7 +111,9 @@ fn number_at(numbers: &[i64], i: usize) -> i64 {
 }
 
 // Writes a row's line and numbers, and the stored lines of a shape.
-fn show_row(file: &[u8], k: usize, numbers: &[i64]) {
+fn show_row(file: &[u8], k: usize, numbers: &[i64])
+    requires { ⌜ soundOf (now file) ≡ true ⌝ }
+{
     let mut out = [0u8; 512];
     let a = print::put_integer(&mut out, 0, file::row_line(file, k) as u64);
     let b = output::put_byte(&mut out, a, 58);
@@ -118,7 +125,9 @@ fn show_row(file: &[u8], k: usize, numbers: &[i64]) {
 }
 
 // Writes the rows of a file, as many as the table has.
-fn show_rows(file: &[u8], table: &[i64], rows: usize) {
+fn show_rows(file: &[u8], table: &[i64], rows: usize)
+    requires { ⌜ soundOf (now file) ≡ true ⌝ }
+{
     let mut k = 0;
     while k < rows {
         if table.len() / 12 <= k {

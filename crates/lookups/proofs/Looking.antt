@@ -1,14 +1,16 @@
 -- When nothing is looked up. Assumes nothing.
 use Prim.Native.Nat.{ℕ}
-use mathlib.Core.Bool.{Bool, true, false, cond, not}
+use mathlib.Core.Bool.{Bool, true, false, cond, not, _||_, true≢false}
 use mathlib.Core.List.{List}
-use mathlib.Core.Path.{_≡_}
+use mathlib.Core.Path.{_≡_, refl, sym, _∙_}
 use lib.Dec.{eqb}
 use Rattle.shape.specs.declared.Edition.{Edition}
 use Rattle.places.specs.declared.Fault.{Fault}
 use Rattle.file.specs.Rows.{scannedOf}
 use Rattle.file.specs.declared.Scanned.{Scanned}
 use Rattle.file.specs.declared.Scanned.the-variants.{File, Fault as ScannedFault}
+use Rattle.passing.specs.Sound.{soundOf}
+use Rattle.passing.proofs.Sound.{sound-scanned}
 use Rattle.definitions.specs.Definitions.{siteFault}
 use Rattle.repeats.specs.Repeats.{duplicateOf}
 use Rattle.questions.specs.Asked.{isBig}
@@ -43,6 +45,21 @@ module _ (file site : List ℕ) (b : Bool) (p : b ≡ isBig file site) where
       pub faulty-again : s ≡ false → (again : ℕ) → again ≡ duplicateOf file → not (eqb again 0) ≡ isFaulty file site
       unfolding isFaulty
       faulty-again j again k = rw (← p, h, ← q, i, ← t, j, k)
+
+-- ---- where there is no fault, no line is at fault
+no-line : (file : List ℕ) (s : Scanned) → s ≡ scannedOf file → isAtFault s ≡ false → soundOf file ≡ true
+unfolding isAtFault
+no-line file (File e n m defined) p q = sound-scanned file p
+no-line file (ScannedFault fault line) p q = absurd (true≢false q)
+
+pub sound-file : (file site : List ℕ) (b : Bool) → b ≡ isFaulty file site → b ≡ false → soundOf file ≡ true
+unfolding isFaulty
+sound-file file site b p h = no-line file (scannedOf file) refl (second (isBig file site) (isAtFault (scannedOf file)) (siteFault site || not (eqb (duplicateOf file) 0)) (sym p ∙ h))
+  where
+    second : (x y z : Bool) → x || (y || z) ≡ false → y ≡ false
+    second true y z e = absurd (true≢false e)
+    second false true z e = absurd (true≢false e)
+    second false false z e = refl
 
 -- ---- what is answered: one thing at a fault, else another
 module _ (file site : List ℕ) (b : Bool) (p : b ≡ isFaulty file site) {A : Type 0} (none found : A) where

@@ -4,7 +4,9 @@ ghost use Prim.Native.Nat.{_≤_};
 ghost use mathlib.Core.Path.{_≡_};
 ghost use lib.ListN.{length};
 ghost use Rattle.tables.specs.Tables.{NoneAgain};
+ghost use mathlib.Core.Bool.{true};
 ghost use Rattle.file.specs.Rows.{rowsOf, scannedOf};
+ghost use Rattle.passing.specs.Sound.{soundOf};
 ghost use Rattle.answers.specs.declared.Answer.the-variants.{Accepted};
 ghost use Rattle.reader.specs.Reading.{rulesAsked, Reading};
 ghost use Rattle.reader.specs.Inside.{RowsJudged, TextsJudged, FileJudged, AllJudged};
@@ -54,6 +56,7 @@ fn judge_rows(
     count: usize,
 ) -> Answer
     requires { ⌜ NoneAgain (now rows) n ⌝ }
+    requires { ⌜ soundOf (now file) ≡ true ⌝ }
     ensures { λ r. ⌜ RowsJudged edition rasters (now (file .entry)) n count (now (rows .entry)) (now (samples .entry)) r (now (rows .exit)) (now (samples .exit)) ⌝ }
 {
     let failing = sampling::expand_shapes(file, edition, rows, n, samples);
@@ -80,6 +83,7 @@ fn judge_texts<'a>(
     count: usize,
 ) -> Answer
     requires { ⌜ n ≤ length (rowsOf (now file)) ⌝ }
+    requires { ⌜ soundOf (now file) ≡ true ⌝ }
     ensures { λ r. ⌜ TextsJudged edition (now (file .entry)) (now (site .entry)) n count (now (rows .entry)) (now (samples .entry)) r (now (rows .exit)) (now (samples .exit)) ⌝ }
 {
     if questions::has_bad_site(edition, site) {

@@ -16,6 +16,7 @@ use Rattle.shape.specs.declared.Expanded.{Expanded}
 use Rattle.stored.specs.Inside.{nextOf, walkStart, Walked}
 use Rattle.stored.specs.declared.Walk.{Walk}
 use Rattle.stored.specs.declared.Sought.{Sought}
+use Rattle.passing.specs.Sound.{soundOf}
 use Rattle.stored.proofs.Walking.{walked-start, next-holds, next-walked}
 use Rattle.grammar.proofs.Parts.{Holds}
 use Rattle.tables.specs.Tables.{firstSuch, numberAt}
@@ -99,11 +100,11 @@ pub record Expanding (edition : Edition) (file : List ℕ) (rows : List ℤ) (n 
   pub first : firstSuch (failsAt edition file rows (length l₀)) k (n - k) ≡ firstFailing edition file rows (length l₀) n
   pub rest : laidFrom edition file rows (length l₀) k (n - k) l ≡ laidFrom edition file rows (length l₀) 0 n l₀
 
-pub expanding-start : (edition : Edition) (file : List ℕ) (rows : List ℤ) (n : ℕ) (l : List ℤ) (walk : Walk) → walk ≡ walkStart → Expanding edition file rows n l l walk 0
+pub expanding-start : (edition : Edition) (file : List ℕ) (rows : List ℤ) (n : ℕ) → soundOf file ≡ true → (l : List ℤ) (walk : Walk) → walk ≡ walkStart → Expanding edition file rows n l l walk 0
 unfolding firstFailing
-expanding-start edition file rows n l walk w =
+expanding-start edition file rows n sound l walk w =
     let e : n - 0 ≡ n = omega arith in
-    record { within = omega arith; walked = rw w (walked-start file); long = refl; first = such-start (failsAt edition file rows (length l)) n; rest = rw e }
+    record { within = omega arith; walked = rw w (walked-start file sound); long = refl; first = such-start (failsAt edition file rows (length l)) n; rest = rw e }
 
 module _ (edition : Edition) (file : List ℕ) (rows : List ℤ) (n : ℕ) (l₀ l : List ℤ) (walk : Walk) (k : ℕ) (x : Expanding edition file rows n l₀ l walk k) where
   pub expanding-end : n ≤ k → Sampled edition file rows n l₀ n l

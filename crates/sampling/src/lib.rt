@@ -1,7 +1,9 @@
-// The shapes of a whole file: the stored lines of each expanded into its part of the lent samples.
+// The shapes of a whole file of which no line is at fault: the stored lines of each expanded into its part of the lent samples.
 ghost use mathlib.Core.Path.{_≡_};
 ghost use Prim.Native.Nat.{min};
 ghost use lib.IntN.{natAbs};
+ghost use mathlib.Core.Bool.{true};
+ghost use Rattle.passing.specs.Sound.{soundOf};
 ghost use Rattle.stored.specs.Inside.{Walked};
 ghost use Rattle.tables.specs.Tables.{numberAt};
 ghost use Rattle.sampling.specs.Sampling.{failed, Sampled};
@@ -70,6 +72,7 @@ fn expand_row(
     k: usize,
     samples: &mut [i64],
 ) -> Turned
+    requires { ⌜ soundOf (now file) ≡ true ⌝ }
     requires { ⌜ Walked (now file) walk ⌝ }
     ensures { λ r. ⌜ RowSampled edition (now (file .entry)) (now (rows .entry)) k (now (samples .entry)) r (now (samples .exit)) ⌝ }
 {
@@ -99,6 +102,7 @@ pub fn expand_shapes(
     n: usize,
     samples: &mut [i64],
 ) -> usize
+    requires { ⌜ soundOf (now file) ≡ true ⌝ }
     ensures { λ r. ⌜ Sampled edition (now (file .entry)) (now (rows .entry)) n (now (samples .entry)) r (now (samples .exit)) ⌝ }
 {
     let mut walk = stored::walk_start();

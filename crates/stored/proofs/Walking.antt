@@ -9,7 +9,7 @@ use lib.Dec.{leb}
 use lib.IntN.{ℤ, pos, negsuc}
 use lib.ListN.{length, getD, take, drop, drop-of-length-le}
 use lib.Signed.{ltZ}
-use Rattle.text.specs.Lines.{wholeLinesOf, bareOf}
+use Rattle.text.specs.Lines.{linesOf, wholeLinesOf, bareOf}
 use Rattle.text.specs.declared.Line.{Line}
 use Rattle.text.proofs.Cases.{and-both}
 use Rattle.text.proofs.Cut.{LineAt, WholeAt}
@@ -24,6 +24,8 @@ use Rattle.places.specs.Places.{fresh}
 use Rattle.places.specs.declared.State.{State}
 use Rattle.places.specs.declared.Stepped.{Stepped}
 use Rattle.file.specs.Whole.{isFault, isRow}
+use Rattle.passing.specs.Sound.{soundFrom, soundOf}
+use Rattle.passing.proofs.Sound.{sound-next}
 use Rattle.stored.specs.Shapes.{isShape, storedOf}
 use Rattle.stored.specs.Places.{valuesPart, storedPlaceFrom, storedPlace}
 use Rattle.stored.specs.Inside.{walkStart, idOf, mostOf, passedOf, soughtFrom, soughtOf, isAhead, nextOf, Walked}
@@ -91,6 +93,10 @@ pub front-lines : (walk : Walk) → walk ≡ walkStart → walk .lines ≤ walk 
 unfolding walkStart
 front-lines walk e = rw e (omega arith)
 
+pub front-sound : (file : List ℕ) (walk : Walk) → walk ≡ walkStart → soundOf file ≡ true → soundFrom (walk .state) (suc (walk .lines)) (linesOf (drop (walk .at) file)) ≡ true
+unfolding walkStart soundOf
+front-sound file walk e s = rw e s
+
 pub front-part : (file : List ℕ) (id : ℤ) (walk : Walk) → walk ≡ walkStart → (x : Sought) → x ≡ soughtOf file walk id → x .part ≡ storedPlace file id
 unfolding soughtOf walkStart storedPlace
 front-part file id walk e x p = rw (p, e) (sought-part id walkStart (wholeLinesOf file))
@@ -100,9 +106,9 @@ pub front-is : (st : State) → st ≡ fresh → record { at = 0; lines = 0; sta
 unfolding walkStart
 front-is st e = rw e
 
-pub walked-start : (file : List ℕ) → Walked file walkStart
-unfolding walkStart storedPlace
-walked-start file = record { lines = omega arith; same = λ id e. refl }
+pub walked-start : (file : List ℕ) → soundOf file ≡ true → Walked file walkStart
+unfolding walkStart storedPlace soundOf
+walked-start file s = record { lines = omega arith; sound = s; same = λ id e. refl }
 
 abbrev standing : ℕ → ℕ → State → ℤ → Walk
 standing at lines st most = record { at = at; lines = lines; state = st; most = most }
@@ -116,6 +122,7 @@ module _ (file : List ℕ) where
       let b = l .further in
       record {
         lines = omega arith;
+        sound = rw (← p) at (sound-next l (walk .state) (suc (walk .lines)) (x .sound));
         same = λ id h. rw (w .whole, w .bare, ← p, e, not-own (walk .most) s id h, whole-ends l) at (x .same id (above-most (walk .most) s id h));
       }
 

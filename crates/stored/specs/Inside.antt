@@ -7,12 +7,13 @@ use lib.Dec.{leb}
 use lib.IntN.{ℤ, pos}
 use lib.ListN.{length, getD, drop}
 use lib.Signed.{ltZ}
-use Rattle.text.specs.Lines.{wholeLinesOf, bareOf}
+use Rattle.text.specs.Lines.{linesOf, wholeLinesOf, bareOf}
 use Rattle.grammar.specs.Parts.{noPart}
 use Rattle.grammar.specs.Steps.{stepOf}
 use Rattle.places.specs.Places.{fresh}
 use Rattle.places.specs.declared.Stepped.{Stepped}
 use Rattle.file.specs.Whole.{isFault}
+use Rattle.passing.specs.Sound.{soundFrom}
 use Rattle.stored.specs.Shapes.{isShape}
 use Rattle.stored.specs.Places.{valuesPart, storedPlaceFrom, storedPlace}
 use Rattle.stored.specs.declared.Walk.{Walk}
@@ -51,7 +52,8 @@ isAhead walk id = leb (walk .lines) (walk .at) && ltZ (walk .most) id
 unfoldable pub nextOf : List ℕ → Walk → ℤ → Sought
 nextOf file walk id = cond (isAhead walk id) (soughtOf file walk id) (record { part = storedPlace file id; walk = walk })
 
--- ---- A walk that came from the front: a shape with an ID above those passed is the first of the lines that are left
+-- ---- A walk that came from the front, and of which no line ahead is at fault: a shape with an ID above those passed is the first of the lines that are left
 pub record Walked (file : List ℕ) (walk : Walk) : Type 0 where
   pub lines : walk .lines ≤ walk .at
+  pub sound : soundFrom (walk .state) (suc (walk .lines)) (linesOf (drop (walk .at) file)) ≡ true
   pub same : (id : ℤ) → ltZ (walk .most) id ≡ true → storedPlaceFrom id (walk .state) (suc (walk .lines)) (walk .at) (wholeLinesOf (drop (walk .at) file)) ≡ storedPlace file id

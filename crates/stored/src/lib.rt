@@ -1,9 +1,11 @@
-// The stored lines of the shapes of a file, as parts of its text, and where they stand.
+// The stored lines of the shapes of a file of which no line is at fault, as parts of its text, and where they stand.
 ghost use mathlib.Core.Path.{_≡_};
-ghost use Prim.Native.Nat.{_+_, _≤_};
+ghost use Prim.Native.Nat.{suc, _+_, _≤_};
+ghost use mathlib.Core.Bool.{true};
 ghost use lib.ListN.{length, drop};
-ghost use Rattle.text.specs.Lines.{wholeLinesOf};
+ghost use Rattle.text.specs.Lines.{linesOf, wholeLinesOf};
 ghost use Rattle.text.specs.Marks.{markOf};
+ghost use Rattle.passing.specs.Sound.{soundFrom, soundOf};
 ghost use Rattle.stored.specs.Shapes.{endsShape, valuesText, isShape, storedOf};
 ghost use Rattle.stored.specs.Places.{storedPlace};
 ghost use Rattle.stored.specs.Inside.{walkStart, mostOf, soughtOf, isAhead, nextOf};
@@ -96,9 +98,11 @@ pub fn walk_start() -> Walk
     }
 }
 
-// Walks on to the first shape with this ID; its stored lines are empty, and at the start, if there is none.
+// Walks on to the first shape with this ID; its stored lines are empty, and at the start, if there is none. Lines that leave the walk where it stands
+// are passed over.
 fn seek(file: &[u8], from: Walk, id: i64) -> Sought
     requires { ⌜ from .lines ≤ from .at ⌝ }
+    requires { ⌜ soundFrom (from .state) (suc (from .lines)) (linesOf (drop (from .at) (now file))) ≡ true ⌝ }
     ensures { λ r. ⌜ r ≡ soughtOf (now (file .entry)) from id ⌝ }
 {
     let mut walk = from;
@@ -109,29 +113,27 @@ fn seek(file: &[u8], from: Walk, id: i64) -> Sought
         let line = text::next_line(file, at);
         let stop = line.stop;
         let behind = line.next;
-        let did = grammar::step(state, number, &file[at..stop]);
-        let found = did.found;
-        if file::is_fault(found) {
-            return Sought {
-                part: Part { start: 0, stop: 0 },
-                walk,
+        if passing::passes(state, &file[at..stop]) {
+            walk.at = behind;
+            walk.lines = number;
+        } else {
+            let did = grammar::step(state, number, &file[at..stop]);
+            let next = did.next;
+            let passed = Walk {
+                at: behind,
+                lines: number,
+                state: next,
+                most: most_passed(walk.most, did),
             };
+            if is_shape(did, id) {
+                let part = Part {
+                    start: behind,
+                    stop: stored_end(file, behind),
+                };
+                return Sought { part, walk: passed };
+            }
+            walk = passed;
         }
-        let next = did.next;
-        let passed = Walk {
-            at: behind,
-            lines: number,
-            state: next,
-            most: most_passed(walk.most, did),
-        };
-        if is_shape(did, id) {
-            let part = Part {
-                start: behind,
-                stop: stored_end(file, behind),
-            };
-            return Sought { part, walk: passed };
-        }
-        walk = passed;
     }
     Sought {
         part: Part { start: 0, stop: 0 },
@@ -141,6 +143,7 @@ fn seek(file: &[u8], from: Walk, id: i64) -> Sought
 
 // Where the stored lines of the first shape with this ID stand; at the start, and empty, if there is none.
 pub fn stored_place(file: &[u8], id: i64) -> Part
+    requires { ⌜ soundOf (now file) ≡ true ⌝ }
     ensures { λ r. ⌜ r ≡ storedPlace (now (file .entry)) id ⌝ }
 {
     let sought = seek(file, walk_start(), id);
@@ -159,6 +162,8 @@ fn is_ahead(walk: Walk, id: i64) -> bool
 
 // The same, sought from where a walk stands if it is ahead, else from the front.
 pub fn stored_next(file: &[u8], walk: Walk, id: i64) -> Sought
+    requires { ⌜ soundOf (now file) ≡ true ⌝ }
+    requires { ⌜ soundFrom (walk .state) (suc (walk .lines)) (linesOf (drop (walk .at) (now file))) ≡ true ⌝ }
     ensures { λ r. ⌜ r ≡ nextOf (now (file .entry)) walk id ⌝ }
 {
     if is_ahead(walk, id) {
@@ -172,6 +177,7 @@ pub fn stored_next(file: &[u8], walk: Walk, id: i64) -> Sought
 
 // The stored lines of the first shape with this ID; empty if there is none.
 pub fn stored_lines(file: &[u8], id: i64) -> &[u8]
+    requires { ⌜ soundOf (now file) ≡ true ⌝ }
     ensures { λ r. ⌜ now r ≡ storedOf (now (file .entry)) id ⌝ }
 {
     let place = stored_place(file, id);

@@ -2,7 +2,7 @@
 use Rattle.signed.proofs.Machine.{rd-is}
 use mathlib.Core.Path.{_∙_}
 use Rattle.lookups.specs.Looking.{storedUp}
-use Rattle.lookups.proofs.Looking.{faulty-none, sound-found}
+use Rattle.lookups.proofs.Looking.{sound-file, faulty-none, sound-found}
 use borrow.Author.Needs.{needs}
 use Rattle.lookups.proofs.stored_lines.Statement.{statement}
 use Rattle.lookups.proofs.stored_lines.Tie as tie
@@ -18,7 +18,7 @@ unfolding storedUp
 returns c = faulty-none _ _ _ (c .before .before .is-faulty .ensures) _ _ (c .before .if1 .taken)
 
 stored-lines-requires : tie.Need-stored-lines-requires
-stored-lines-requires c κs = search needs
+stored-lines-requires c κs = sound-file _ _ _ (c .before .is-faulty .ensures) (c .if1 .left)
 
 returns-2 : tie.Need-returns-2
 unfolding storedUp

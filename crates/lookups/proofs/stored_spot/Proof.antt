@@ -2,7 +2,7 @@
 use mathlib.Core.Path.{_∙_}
 use Rattle.signed.proofs.Machine.{rd-is}
 use Rattle.lookups.specs.Spots.{storedSpot}
-use Rattle.lookups.proofs.Looking.{faulty-none, sound-found}
+use Rattle.lookups.proofs.Looking.{sound-file, faulty-none, sound-found}
 use borrow.Author.Needs.{needs}
 use Rattle.lookups.proofs.stored_spot.Statement.{statement}
 use Rattle.lookups.proofs.stored_spot.Tie as tie
@@ -15,7 +15,7 @@ unfolding storedSpot
 returns c = faulty-none _ _ _ (c .before .is-faulty .ensures) _ _ (c .if1 .taken)
 
 stored-place-requires : tie.Need-stored-place-requires
-stored-place-requires c κs = search needs
+stored-place-requires c κs = sound-file _ _ _ (c .before .is-faulty .ensures) (c .if1 .left)
 
 spot-in-requires : tie.Need-spot-in-requires
 spot-in-requires c κs = search needs

@@ -1,5 +1,6 @@
 -- `reader::judge_file` meets its contract. Assumes nothing.
 use Rattle.reader.proofs.Judging.{rows-counted, judged-no, line-faulty, block-missing, room-lacks, file-judged}
+use Rattle.passing.proofs.Sound.{sound-scanned}
 use mathlib.Core.Path.{sym, _∙_}
 use native.Mathlib.Omega.{arith}
 use borrow.Author.Needs.{needs}
@@ -45,8 +46,9 @@ judge-texts-requires : tie.Need-judge-texts-requires
 judge-texts-requires c κs = let m = c .before .before .before .before .before in
     let e = m .before .before .before in
     let s = e .before .before .before in
-    let n = rows-counted _ _ _ _ _ (sym (e .edition .given .1) ∙ s .scan .ensures .answer) in
-    omega arith
+    let scanned = sym (e .edition .given .1) ∙ s .scan .ensures .answer in
+    let n = rows-counted _ _ _ _ _ scanned in
+    (omega arith, sound-scanned _ scanned)
 
 enum-known-fault : tie.Need-enum-known-fault
 enum-known-fault c = search needs

@@ -42,7 +42,8 @@ judge-rows-requires c κs = let k = c .before .before .before in
     let e = k .before .before in
     let d = e .before in
     let b = d .before .before in
-    none-again-of _ _ _ (b .before .before .before .before .pre) (d .first-duplicate .ensures) (e .if2 .left)
+    let pre = b .before .before .before .before .pre in
+    (none-again-of _ _ _ (pre .0) (d .first-duplicate .ensures) (e .if2 .left), pre .1)
 
 same-length-3 : tie.Need-same-length-3
 same-length-3 c = search needs

@@ -18,7 +18,7 @@ id-is : (c : tie.After-number2) → toZ w64 (ofZ w64 (c .number2 .result)) ≡ n
 id-is c = rd-at _ (c .number2 .ok) ∙ c .number2 .ensures
 
 there : (c : tie.After-stored-next) → Holds (now (c .before .before .before .before .before .before .args .file)) (c .stored-next .result .part) (textAt (now (c .before .before .before .before .before .before .args .file)) (now (c .before .before .before .before .before .before .args .rows)) (c .before .before .before .before .before .before .args .k))
-there c = row-text _ _ _ _ (c .before .before .before .before .before .before .pre) _ (id-is (c .before)) _ (c .stored-next .ensures)
+there c = row-text _ _ _ _ (c .before .before .before .before .before .before .pre .1) _ (id-is (c .before)) _ (c .stored-next .ensures)
 
 number-requires : tie.Need-number-requires
 number-requires c κs = search needs
@@ -52,11 +52,11 @@ returns c = let x = c .before .before in
     let t = x .before .before .before .before in
     let i = t .before .before in
     let n = i .before .before in
-    row-shape _ _ _ _ _ _ (n .number .ensures) (compared _ _ _ _ (i .before .same .ensures) (rd-at _ (n .number .ok)) refl ∙ i .if1 .taken) _ (t .before .before .before .before .before .before .pre) _ _ (t .stored-next .ensures) _ (there t .there) _ _ (x .expand-shape .ensures)
+    row-shape _ _ _ _ _ _ (n .number .ensures) (compared _ _ _ _ (i .before .same .ensures) (rd-at _ (n .number .ok)) refl ∙ i .if1 .taken) _ (t .before .before .before .before .before .before .pre .1) _ _ (t .stored-next .ensures) _ (there t .there) _ _ (x .expand-shape .ensures)
 
 returns-2 : tie.Need-returns-2
 returns-2 c = let n = c .before .before in
-    row-other _ _ _ _ _ _ (n .number .ensures) (compared _ _ _ _ (c .before .same .ensures) (rd-at _ (n .number .ok)) refl ∙ c .if1 .left) _ (n .before .before .pre)
+    row-other _ _ _ _ _ _ (n .number .ensures) (compared _ _ _ _ (c .before .same .ensures) (rd-at _ (n .number .ok)) refl ∙ c .if1 .left) _ (n .before .before .pre .1)
 
 pub expand-row-spec : {M : Type 1} → statement M
 expand-row-spec =

@@ -17,10 +17,10 @@ walk-start-requires : tie.Need-walk-start-requires Inv-loop μ-loop
 walk-start-requires c κs = search needs
 
 loop-holds : tie.Need-loop-holds Inv-loop μ-loop
-loop-holds c = expanding-start _ _ _ _ _ _ (c .walk-start .ensures)
+loop-holds c = expanding-start _ _ _ _ (c .before .before .pre) _ _ (c .walk-start .ensures)
 
 expand-row-requires : tie.Need-expand-row-requires Inv-loop μ-loop
-expand-row-requires c κs = c .before .before .loop .inv .walked
+expand-row-requires c κs = (c .before .before .before .before .before .pre, c .before .before .loop .inv .walked)
 
 same-length : tie.Need-same-length Inv-loop μ-loop
 same-length c = let x = c .before .before in x .expand-row .kept .1 .1 .1 .1 .1 .0 ∙ x .before .before .before .loop .inv .long

@@ -10,7 +10,7 @@ use mir.Val.{toZ, ofZ}
 use Rattle.text.proofs.Cut.{LineAt, line-at, WholeAt, whole-at}
 use Rattle.signed.proofs.Machine.{rd-at, rd-is}
 use Rattle.stored.specs.Inside.{mostOf, soughtOf}
-use Rattle.stored.proofs.Seeking.{Seeking, seek-fault, seek-hit, seek-turn, seek-end, passed-is}
+use Rattle.stored.proofs.Seeking.{Seeking, seek-pass, seek-hit, seek-turn, seek-end, passed-is}
 use borrow.Author.Needs.{needs}
 use Rattle.stored.proofs.seek.Statement.{statement}
 use Rattle.stored.proofs.seek.Tie as tie
@@ -29,11 +29,11 @@ whole : (c : tie.After-next-line Inv-loop μ-loop) → WholeAt (now (c .before .
 whole c = whole-at _ _ _ (c .next-line .ensures) (omega arith)
 
 -- the greatest ID of the shapes passed, behind it
-most-is : (c : tie.After-most-passed Inv-loop μ-loop) → toZ w64 (ofZ w64 (c .most-passed .result)) ≡ mostOf (c .before .before .before .before .before .before .before .before .before .before .before .before .loop .walk .most) (c .before .before .before .before .before .step .result)
-most-is c = rd-at _ (c .most-passed .ok) ∙ c .most-passed .ensures ∙ ap (λ (z : ℤ). mostOf z (c .before .before .before .before .before .step .result)) (rd-at (c .before .before .before .before .before .before .before .before .before .before .before .before .loop .walk .most) (search needs))
+most-is : (c : tie.After-most-passed Inv-loop μ-loop) → toZ w64 (ofZ w64 (c .most-passed .result)) ≡ mostOf (c .before .before .before .before .before .before .before .before .before .before .before .before .before .loop .walk .most) (c .before .before .before .step .result)
+most-is c = rd-at _ (c .most-passed .ok) ∙ c .most-passed .ensures ∙ ap (λ (z : ℤ). mostOf z (c .before .before .before .step .result)) (rd-at (c .before .before .before .before .before .before .before .before .before .before .before .before .before .loop .walk .most) (search needs))
 
 loop-holds : tie.Need-loop-holds Inv-loop μ-loop
-loop-holds c = record { lines = c .before .pre; same = refl }
+loop-holds c = record { lines = c .before .pre .0; sound = c .before .pre .1; same = refl }
 
 add-number : tie.Need-add-number Inv-loop μ-loop
 add-number c = omega (arith, c .before .before .before .before .loop .inv .lines, c .before .before .before .before .before .before .good .0 .0)
@@ -41,25 +41,35 @@ add-number c = omega (arith, c .before .before .before .before .loop .inv .lines
 next-line-requires : tie.Need-next-line-requires Inv-loop μ-loop
 next-line-requires c κs = search needs
 
+sub-passes : tie.Need-sub-passes Inv-loop μ-loop
+sub-passes c = here c .ordered
+
+part-passes-start : tie.Need-part-passes-start Inv-loop μ-loop
+part-passes-start c = here c .ordered
+
+part-passes-end : tie.Need-part-passes-end Inv-loop μ-loop
+part-passes-end c = here c .within
+
+passes-requires : tie.Need-passes-requires Inv-loop μ-loop
+passes-requires c κs = search needs
+
+loop-less : tie.Need-loop-less Inv-loop μ-loop
+loop-less c = let l = c .before .before .before in omega (arith, here l .further, here l .inside)
+
+loop-again : tie.Need-loop-again Inv-loop μ-loop
+loop-again c = let l = c .before .before .before in seek-pass _ _ _ _ (l .before .before .before .before .before .loop .inv) _ (here l) (whole l) (sym (c .before .passes .ensures) ∙ c .if2 .taken)
+
 sub-step : tie.Need-sub-step Inv-loop μ-loop
-sub-step c = here c .ordered
+sub-step c = here (c .before .before .before) .ordered
 
 part-step-start : tie.Need-part-step-start Inv-loop μ-loop
-part-step-start c = here c .ordered
+part-step-start c = here (c .before .before .before) .ordered
 
 part-step-end : tie.Need-part-step-end Inv-loop μ-loop
-part-step-end c = here c .within
+part-step-end c = here (c .before .before .before) .within
 
 step-requires : tie.Need-step-requires Inv-loop μ-loop
 step-requires c κs = search needs
-
-is-fault-requires : tie.Need-is-fault-requires Inv-loop μ-loop
-is-fault-requires c κs = search needs
-
-returns : tie.Need-returns Inv-loop μ-loop
-returns c = let s = c .before .before in
-    let l = s .before .before in
-    seek-fault _ _ _ _ (l .before .before .before .before .before .loop .inv) _ (here l) (whole l) _ (s .step .ensures) (sym (c .before .is-fault .ensures) ∙ c .if2 .taken) ∙ ap (soughtOf _ _) (rd-is (l .before .before .before .before .before .before .before .fits .id))
 
 most-passed-requires : tie.Need-most-passed-requires Inv-loop μ-loop
 most-passed-requires c κs = search needs
@@ -70,25 +80,23 @@ is-shape-requires c κs = search needs
 stored-end-requires : tie.Need-stored-end-requires Inv-loop μ-loop
 stored-end-requires c κs = search needs
 
+returns : tie.Need-returns Inv-loop μ-loop
+returns c = let m = c .before .before .before in
+    let s = m .before .before .before in
+    let l = s .before .before .before .before .before in
+    seek-hit _ _ _ _ (l .before .before .before .before .before .loop .inv) _ (here l) (whole l) _ (s .step .ensures) _ (passed-is _ _ _ _ (most-is m)) (sym (c .before .before .is-shape .ensures) ∙ c .before .if3 .taken) _ (c .stored-end .ensures) ∙ ap (soughtOf _ _) (rd-is (l .before .before .before .before .before .before .before .fits .id))
+
+loop-less-2 : tie.Need-loop-less-2 Inv-loop μ-loop
+loop-less-2 c = let l = c .before .before .before .before .before .before .before .before .before .before in omega (arith, here l .further, here l .inside)
+
+loop-again-2 : tie.Need-loop-again-2 Inv-loop μ-loop
+loop-again-2 c = let m = c .before .before in
+    let s = m .before .before .before in
+    let l = s .before .before .before .before .before in
+    seek-turn _ _ _ _ (l .before .before .before .before .before .loop .inv) _ (here l) (whole l) _ (s .step .ensures) _ (passed-is _ _ _ _ (most-is m)) (sym (c .before .is-shape .ensures) ∙ c .if3 .left)
+
 returns-2 : tie.Need-returns-2 Inv-loop μ-loop
-returns-2 c = let m = c .before .before .before in
-    let f = m .before .before .before in
-    let s = f .before .before in
-    let l = s .before .before in
-    seek-hit _ _ _ _ (l .before .before .before .before .before .loop .inv) _ (here l) (whole l) _ (s .step .ensures) (sym (f .before .is-fault .ensures) ∙ f .if2 .left) _ (passed-is _ _ _ _ (most-is m)) (sym (c .before .before .is-shape .ensures) ∙ c .before .if3 .taken) _ (c .stored-end .ensures) ∙ ap (soughtOf _ _) (rd-is (l .before .before .before .before .before .before .before .fits .id))
-
-loop-less : tie.Need-loop-less Inv-loop μ-loop
-loop-less c = let l = c .before .before .before .before .before .before .before .before .before in omega (arith, here l .further, here l .inside)
-
-loop-again : tie.Need-loop-again Inv-loop μ-loop
-loop-again c = let m = c .before .before in
-    let f = m .before .before .before in
-    let s = f .before .before in
-    let l = s .before .before in
-    seek-turn _ _ _ _ (l .before .before .before .before .before .loop .inv) _ (here l) (whole l) _ (s .step .ensures) (sym (f .before .is-fault .ensures) ∙ f .if2 .left) _ (passed-is _ _ _ _ (most-is m)) (sym (c .before .is-shape .ensures) ∙ c .if3 .left)
-
-returns-3 : tie.Need-returns-3 Inv-loop μ-loop
-returns-3 c = seek-end _ _ _ _ (c .before .before .loop .inv) (c .if1 .left) ∙ ap (soughtOf _ _) (rd-is (c .before .before .before .before .fits .id))
+returns-2 c = seek-end _ _ _ _ (c .before .before .loop .inv) (c .if1 .left) ∙ ap (soughtOf _ _) (rd-is (c .before .before .before .before .fits .id))
 
 pub seek-spec : {M : Type 1} → statement M
 seek-spec =
@@ -99,16 +107,20 @@ seek-spec =
     loop-holds
     add-number
     next-line-requires
+    sub-passes
+    part-passes-start
+    part-passes-end
+    passes-requires
+    loop-less
+    loop-again
     sub-step
     part-step-start
     part-step-end
     step-requires
-    is-fault-requires
-    returns
     most-passed-requires
     is-shape-requires
     stored-end-requires
-    returns-2
-    loop-less
-    loop-again
-    returns-3)
+    returns
+    loop-less-2
+    loop-again-2
+    returns-2)

@@ -16,7 +16,7 @@ is-ahead-requires : tie.Need-is-ahead-requires
 is-ahead-requires c κs = search needs
 
 seek-requires : tie.Need-seek-requires
-seek-requires c κs = ahead-lines _ _ (ahead (c .before) ∙ c .if1 .taken)
+seek-requires c κs = (ahead-lines _ _ (ahead (c .before) ∙ c .if1 .taken), c .before .before .before .pre .1)
 
 returns : tie.Need-returns
 returns c = c .seek .ensures ∙ ap (soughtOf _ _) (rd-is (c .before .before .before .before .fits .id)) ∙ next-on _ _ _ (ahead (c .before .before) ∙ c .before .if1 .taken)

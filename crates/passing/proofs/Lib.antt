@@ -1,0 +1,3 @@
+-- The laws of files of which no line is at fault, and of lines that are passed over.
+pub mod Over
+pub mod Sound
