@@ -49,7 +49,7 @@ fn value_place(text: &[u8], at: usize, stop: usize) -> Part
     }
 }
 
-// Where the value of a key stands in a file; at the start, and empty, if it is not defined there.
+// Where the value of a key stands in a file; at the start, and empty, if it is not defined there. Nothing is read behind DEFINITIONS.
 pub fn file_place(file: &[u8], key: &[u8]) -> Part
     ensures { λ r. ⌜ r ≡ filePlace (now (file .entry)) (now (key .entry)) ⌝ }
 {
@@ -57,6 +57,9 @@ pub fn file_place(file: &[u8], key: &[u8]) -> Part
     let mut at: usize = 0;
     let mut n: usize = 1;
     while at < file.len() {
+        if passing::left_definitions(st) {
+            return Part { start: 0, stop: 0 };
+        }
         let line = text::next_line(file, at);
         let stop = line.stop;
         let did = grammar::step(st, n, &file[at..stop]);

@@ -49,7 +49,7 @@ set-behind : (l vs : List ℤ) (k : ℕ) → getD (sets l (suc k) vs) 0 (pos 0) 
 set-behind l [] k = refl
 set-behind l (v ∷ vs) k = set-behind (set l (suc k) v) vs (suc k) ∙ getD-set-other l (suc k) 0 v (pos 0) (λ (e : 0 ≡ suc k). absurd (omega arith))
 
-kind-of : (kind : ℕ) (vs : List ℤ) → getD (padded kind vs) 0 (pos 0) ≡ pos kind
+pub kind-of : (kind : ℕ) (vs : List ℤ) → getD (padded kind vs) 0 (pos 0) ≡ pos kind
 unfolding padded
 kind-of kind vs = set-behind (set blank 0 (pos kind)) vs 0
 

@@ -2,3 +2,4 @@
 -- such, and `passed-over` what is known of such a line.
 pub mod Sound
 pub mod Passing
+pub mod Left

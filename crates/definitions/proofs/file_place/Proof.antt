@@ -5,6 +5,7 @@ use native.Mathlib.Omega.{arith}
 use denote.Ref.{now}
 use lib.ListN.{length}
 use Rattle.text.proofs.Cut.{LineAt, line-at, WholeAt, whole-at}
+use Rattle.definitions.proofs.Beyond.{place-left}
 use Rattle.definitions.proofs.Placing.{PlaceWalk, place-start, place-line, place-turn, place-end, place-fault, place-hit, place-miss}
 use borrow.Author.Needs.{needs}
 use Rattle.definitions.proofs.file_place.Statement.{statement}
@@ -17,10 +18,10 @@ abbrev μ-loop : tie.MeasureT-loop
 μ-loop file key st₀ at₀ n₀ st at n = length file - at
 
 -- the line that starts here, without its end and with it
-here : (c : tie.After-next-line Inv-loop μ-loop) → LineAt (now (c .before .before .before .before .before .before .args .file)) (c .before .before .loop .at) (c .next-line .result)
+here : (c : tie.After-next-line Inv-loop μ-loop) → LineAt (now (c .before .before .before .before .before .before .before .before .args .file)) (c .before .before .before .before .loop .at) (c .next-line .result)
 here c = line-at _ _ _ (c .next-line .ensures) (omega arith)
 
-whole : (c : tie.After-next-line Inv-loop μ-loop) → WholeAt (now (c .before .before .before .before .before .before .args .file)) (c .before .before .loop .at) (c .next-line .result)
+whole : (c : tie.After-next-line Inv-loop μ-loop) → WholeAt (now (c .before .before .before .before .before .before .before .before .args .file)) (c .before .before .before .before .loop .at) (c .next-line .result)
 whole c = whole-at _ _ _ (c .next-line .ensures) (omega arith)
 
 start-requires : tie.Need-start-requires Inv-loop μ-loop
@@ -28,6 +29,12 @@ start-requires c κs = search needs
 
 loop-holds : tie.Need-loop-holds Inv-loop μ-loop
 loop-holds c = place-start _ _ _ (c .start .ensures)
+
+left-definitions-requires : tie.Need-left-definitions-requires Inv-loop μ-loop
+left-definitions-requires c κs = search needs
+
+returns : tie.Need-returns Inv-loop μ-loop
+returns c = place-left (c .before .before .before .loop .inv) (sym (c .before .left-definitions .ensures) ∙ c .if1 .taken)
 
 next-line-requires : tie.Need-next-line-requires Inv-loop μ-loop
 next-line-requires c κs = search needs
@@ -47,10 +54,10 @@ step-requires c κs = search needs
 is-fault-requires : tie.Need-is-fault-requires Inv-loop μ-loop
 is-fault-requires c κs = search needs
 
-returns : tie.Need-returns Inv-loop μ-loop
-returns c = let s = c .before .before in
+returns-2 : tie.Need-returns-2 Inv-loop μ-loop
+returns-2 c = let s = c .before .before in
     let l = s .before .before in
-    place-fault _ _ _ _ _ _ (place-line (l .before .before .loop .inv) (here l) (whole l) (s .step .ensures)) (sym (c .before .is-fault .ensures) ∙ c .if1 .taken)
+    place-fault _ _ _ _ _ _ (place-line (l .before .before .before .before .loop .inv) (here l) (whole l) (s .step .ensures)) (sym (c .before .is-fault .ensures) ∙ c .if2 .taken)
 
 sub-defines : tie.Need-sub-defines Inv-loop μ-loop
 sub-defines c = here (c .before .before .before .before) .ordered
@@ -67,17 +74,17 @@ defines-requires c κs = search needs
 value-place-requires : tie.Need-value-place-requires Inv-loop μ-loop
 value-place-requires c κs = let l = c .before .before .before .before .before .before .before in (here l .ordered, here l .within)
 
-returns-2 : tie.Need-returns-2 Inv-loop μ-loop
-returns-2 c = let d = c .before .before in
+returns-3 : tie.Need-returns-3 Inv-loop μ-loop
+returns-3 c = let d = c .before .before in
     let e = d .before .before in
     let s = e .before .before in
     let l = s .before .before in
-    c .value-place .ensures ∙ place-hit _ _ _ _ _ _ (place-line (l .before .before .loop .inv) (here l) (whole l) (s .step .ensures)) (sym (e .before .is-fault .ensures) ∙ e .if1 .left) (sym (d .defines .ensures) ∙ c .before .if2 .taken)
+    c .value-place .ensures ∙ place-hit _ _ _ _ _ _ (place-line (l .before .before .before .before .loop .inv) (here l) (whole l) (s .step .ensures)) (sym (e .before .is-fault .ensures) ∙ e .if2 .left) (sym (d .defines .ensures) ∙ c .before .if3 .taken)
 
 add-n : tie.Need-add-n Inv-loop μ-loop
 add-n c = let l = c .before .before .before .before .before .before .before in
-    let w = l .before .before .loop .inv .within in
-    omega (arith, w .number, here l .further, here l .inside, l .before .before .before .before .before .before .good .0 .0)
+    let w = l .before .before .before .before .loop .inv .within in
+    omega (arith, w .number, here l .further, here l .inside, l .before .before .before .before .before .before .before .before .good .0 .0)
 
 loop-less : tie.Need-loop-less Inv-loop μ-loop
 loop-less c = let l = c .before .before .before .before .before .before .before .before in omega (arith, here l .further, here l .inside)
@@ -87,11 +94,11 @@ loop-again c = let d = c .before .before in
     let e = d .before .before in
     let s = e .before .before in
     let l = s .before .before in
-    let k = l .before .before .loop .inv in
-    place-turn k (here l) (whole l) (s .step .ensures) (place-miss _ _ _ _ _ _ (place-line k (here l) (whole l) (s .step .ensures)) (sym (e .before .is-fault .ensures) ∙ e .if1 .left) (sym (d .defines .ensures) ∙ c .before .if2 .left))
+    let k = l .before .before .before .before .loop .inv in
+    place-turn k (here l) (whole l) (s .step .ensures) (place-miss _ _ _ _ _ _ (place-line k (here l) (whole l) (s .step .ensures)) (sym (e .before .is-fault .ensures) ∙ e .if2 .left) (sym (d .defines .ensures) ∙ c .before .if3 .left))
 
-returns-3 : tie.Need-returns-3 Inv-loop μ-loop
-returns-3 c = place-end (c .before .loop .inv) (c .loop-test .left)
+returns-4 : tie.Need-returns-4 Inv-loop μ-loop
+returns-4 c = place-end (c .before .loop .inv) (c .loop-test .left)
 
 pub file-place-spec : {M : Type 1} → statement M
 file-place-spec =
@@ -101,20 +108,22 @@ file-place-spec =
     μ-loop
     start-requires
     loop-holds
+    left-definitions-requires
+    returns
     next-line-requires
     sub-step
     part-step-start
     part-step-end
     step-requires
     is-fault-requires
-    returns
+    returns-2
     sub-defines
     part-defines-start
     part-defines-end
     defines-requires
     value-place-requires
-    returns-2
+    returns-3
     add-n
     loop-less
     loop-again
-    returns-3)
+    returns-4)
