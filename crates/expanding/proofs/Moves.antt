@@ -1,7 +1,7 @@
 -- Moves from state to state: one law for each way through the functions that take values, and how two moves make one. Assumes nothing.
 use Prim.Native.Nat.{ℕ, _+_, _*_, _≤_, _<_}
 use mathlib.Core.Bool.{true, false}
-use mathlib.Core.List.{List, []}
+use mathlib.Core.List.{List, [], _∷_}
 use mathlib.Core.Path.{_≡_, refl, sym, ap, _∙_}
 use native.Mathlib.Numerals.{add-one}
 use native.Mathlib.Nat.{lt-trans}
@@ -16,7 +16,7 @@ use Rattle.numeral.specs.declared.Decimal.{Decimal}
 use Rattle.numeral.specs.declared.Natural.the-variants.{Value as NaturalValue, Bad as NaturalBad}
 use Rattle.expanding.specs.Expand.{fault, next, repeated, counted, freshOf, repeatOf, pairOf, sumsOf}
 use Rattle.shape.specs.Stored.{valuesAt}
-use Rattle.expanding.specs.Inside.{ValueAt, judged, ranTo, Ran, resume, weight, Ready, Went, PairWent}
+use Rattle.expanding.specs.Inside.{ValueAt, judged, ranTo, Ran, resume, weight, Ready, Begun, Went, PairWent}
 use Rattle.expanding.specs.declared.State.{State}
 use Rattle.expanding.specs.declared.State.the-variants.{Fresh, Repeat, Done, Bad}
 use Rattle.expanding.proofs.Judging.{judged-fault}
@@ -31,7 +31,7 @@ went-as q e w = rw (← e) w
 
 -- what a move says where it ends in one of the two
 module _ {text : List ℕ} {num : ℕ} {l m : List ℤ} {s : State} {from at : ℕ} {sum : ℤ} where
-  pub repeat-less : {last : Decimal} → Went text num l m s (Repeat from at sum last) → 3 + 2 * length (valuesAt text from) < weight text s
+  pub repeat-less : {last : Decimal} → Went text num l m s (Repeat from at sum last) → 1 + 2 * length (valuesAt text from) < weight text s
   unfolding weight
   repeat-less w = w .less
 
@@ -39,47 +39,60 @@ module _ {text : List ℕ} {num : ℕ} {l m : List ℤ} {s : State} {from at : �
   unfolding Ready
   repeat-ready w = w .ready
 
-  pub fresh-less : Went text num l m s (Fresh from at sum) → 2 + 2 * length (valuesAt text from) < weight text s
+  pub fresh-less : {value : Decimal} → Went text num l m s (Fresh from at sum value) → 2 + 2 * length (valuesAt text from) < weight text s
   unfolding weight
   fresh-less w = w .less
 
-  pub fresh-ready : Went text num l m s (Fresh from at sum) → at ≤ num
+  pub fresh-ready : {value : Decimal} → Went text num l m s (Fresh from at sum value) → at ≤ num
   unfolding Ready
   fresh-ready w = w .ready
 
+module _ (text : List ℕ) (from at : ℕ) (sum : ℤ) where
+  -- ---- Where the next value is fresh
+  pub begun-end : valuesAt text from ≡ [] → Begun text from at sum (Done at)
+  unfolding resume weight Ready freshOf sumsOf judged
+  begun-end e = record { same = λ num l. rw e; less = omega arith; ready = λ num h. tt }
+
+  pub begun-value : (d : Decimal) (behind : ℕ) → ValueAt text from d behind → Begun text from at sum (Fresh behind at sum d)
+  unfolding resume weight Ready
+  begun-value d behind v =
+      record { same = λ num l. rw (v .values); less = let n = ap length (v .values) in omega arith; ready = λ num h. h }
+
 module _ (text : List ℕ) (num : ℕ) (l : List ℤ) (from at : ℕ) (sum : ℤ) where
   -- ---- A fresh value
-  pub fresh-end : valuesAt text from ≡ [] → Went text num l l (Fresh from at sum) (Done at)
-  unfolding resume weight Ready
-  fresh-end e = record { same = rw e (unfold freshOf sumsOf judged in refl); less = omega arith; ready = tt }
-
-  module _ (d : Decimal) (behind : ℕ) (v : ValueAt text from d behind) where
-    fresh-run : freshOf (valuesAt text from) ≡ repeated 1 d (repeatOf d (valuesAt text behind))
+  module _ (d : Decimal) where
+    fresh-run : (ds : List Decimal) → freshOf (d ∷ ds) ≡ repeated 1 d (repeatOf d ds)
     unfolding freshOf repeated
-    fresh-run = rw (v .values)
+    fresh-run ds = refl
 
-    pub fresh-value : {m : List ℤ} {r : Sum} (s : ℤ) → Ran num l m at 1 sum d r → r ≡ SumValue s → Went text num l m (Fresh from at sum) (Repeat behind (at + 1) s d)
+    pub fresh-value : {m : List ℤ} {r : Sum} (s : ℤ) → Ran num l m at 1 sum d r → r ≡ SumValue s → Went text num l m (Fresh from at sum d) (Repeat from (at + 1) s d)
     unfolding resume weight Ready ranTo
     fresh-value s w e =
         record {
-          same = rw fresh-run (sym (w .same (repeatOf d (valuesAt text behind)) ∙ rw e));
-          less = let n = ap length (v .values) in omega arith;
+          same = rw (fresh-run (valuesAt text from)) (sym (w .same (repeatOf d (valuesAt text from)) ∙ rw e));
+          less = omega arith;
           ready = w .fits s e;
         }
 
-    pub fresh-beyond : {m : List ℤ} {r : Sum} → Ran num l m at 1 sum d r → r ≡ Beyond → Went text num l m (Fresh from at sum) Bad
+    pub fresh-beyond : {m : List ℤ} {r : Sum} → Ran num l m at 1 sum d r → r ≡ Beyond → Went text num l m (Fresh from at sum d) Bad
     unfolding resume weight Ready ranTo
     fresh-beyond w e =
-        record { same = rw fresh-run (sym (w .same (repeatOf d (valuesAt text behind)) ∙ rw e)); less = omega arith; ready = tt }
+        record {
+          same = rw (fresh-run (valuesAt text from)) (sym (w .same (repeatOf d (valuesAt text from)) ∙ rw e));
+          less = omega arith;
+          ready = tt;
+        }
 
-    -- ---- Behind a value
-    repeat-fresh : (last : Decimal) → sameDecimal d last ≡ false → repeatOf last (valuesAt text from) ≡ freshOf (valuesAt text from)
+  -- ---- Behind a value
+  module _ (d : Decimal) (behind : ℕ) (v : ValueAt text from d behind) where
+    repeat-fresh : (last : Decimal) → sameDecimal d last ≡ false → repeatOf last (valuesAt text from) ≡ freshOf (d ∷ valuesAt text behind)
     unfolding repeatOf
     repeat-fresh last h = rw (v .values, h)
 
-    pub repeat-other : (last : Decimal) → sameDecimal d last ≡ false → at ≤ num → Went text num l l (Repeat from at sum last) (Fresh from at sum)
+    pub repeat-other : (last : Decimal) → sameDecimal d last ≡ false → at ≤ num → Went text num l l (Repeat from at sum last) (Fresh behind at sum d)
     unfolding resume weight Ready
-    repeat-other last h k = record { same = rw (repeat-fresh last h); less = omega arith; ready = k }
+    repeat-other last h k =
+        record { same = rw (repeat-fresh last h); less = let n = ap length (v .values) in omega arith; ready = k }
 
     repeat-pair : (last : Decimal) → sameDecimal d last ≡ true → repeatOf last (valuesAt text from) ≡ next d (pairOf d (valuesAt text behind))
     unfolding repeatOf
@@ -125,13 +138,13 @@ module _ (text : List ℕ) (num : ℕ) (l : List ℤ) (from at : ℕ) (sum : ℤ
       pair-run n e = rw (v .values, add-one n, e)
 
       pub pair-value : {m : List ℤ} {r : Sum} (n : ℕ) (s : ℤ) → wholeOf c 0 0 1000000 ≡ NaturalValue n → Ran num l m at (n + 1) sum d r → r ≡ SumValue s
-          → PairWent text num l m from at sum d (Fresh behind (at + (n + 1)) s)
-      unfolding resume weight Ready ranTo
-      pair-value n s e w h =
+          → {q : State} → Begun text behind (at + (n + 1)) s q → PairWent text num l m from at sum d q
+      unfolding ranTo
+      pair-value {m} n s e w h b =
           record {
-            same = rw (pair-run n e) (sym (w .same (freshOf (valuesAt text behind)) ∙ rw h));
-            less = let k = ap length (v .values) in omega arith;
-            ready = w .fits s h;
+            same = b .same num m ∙ rw (pair-run n e) (sym (w .same (freshOf (valuesAt text behind)) ∙ rw h));
+            less = let k = ap length (v .values) in let j = b .less in omega arith;
+            ready = b .ready num (w .fits s h);
           }
 
       pub pair-beyond : {m : List ℤ} {r : Sum} (n : ℕ) → wholeOf c 0 0 1000000 ≡ NaturalValue n → Ran num l m at (n + 1) sum d r → r ≡ Beyond

@@ -56,24 +56,30 @@ pub record Ran (num : ℕ) (l m : List ℤ) (at n : ℕ) (sum : ℤ) (d : Decima
 
 -- ---- What comes of a state
 unfoldable pub resume : List ℕ → ℕ → List ℤ → State → Verdict
-resume text num l (Fresh from at sum) = judged num l at (sumsOf sum (freshOf (valuesAt text from)))
+resume text num l (Fresh from at sum value) = judged num l at (sumsOf sum (freshOf (value ∷ valuesAt text from)))
 resume text num l (Repeat from at sum last) = judged num l at (sumsOf sum (repeatOf last (valuesAt text from)))
 resume text num l (Done at) = cond (eqb at num) (good l) bad
 resume text num l Bad = bad
 
 -- how much is left: the stored values, and which of the two functions stands
 unfoldable pub weight : List ℕ → State → ℕ
-weight text (Fresh from at sum) = 2 + 2 * length (valuesAt text from)
-weight text (Repeat from at sum last) = 3 + 2 * length (valuesAt text from)
-weight text (Done at) = 1
+weight text (Fresh from at sum value) = 2 + 2 * length (valuesAt text from)
+weight text (Repeat from at sum last) = 1 + 2 * length (valuesAt text from)
+weight text (Done at) = 0
 weight text Bad = 0
 
 -- what each function asks of a state: no more samples than are due, and a sum within the limits
 unfoldable pub Ready : ℕ → State → Type 0
-Ready num (Fresh from at sum) = at ≤ num
+Ready num (Fresh from at sum value) = at ≤ num
 Ready num (Repeat from at sum last) = at ≤ num
 Ready num (Done at) = Unit
 Ready num Bad = Unit
+
+-- where the next value is fresh: the state that it makes
+pub record Begun (text : List ℕ) (from at : ℕ) (sum : ℤ) (r : State) : Type 0 where
+  pub same : (num : ℕ) (l : List ℤ) → resume text num l r ≡ judged num l at (sumsOf sum (freshOf (valuesAt text from)))
+  pub less : weight text r ≤ 2 * length (valuesAt text from)
+  pub ready : (num : ℕ) → at ≤ num → Ready num r
 
 -- from one state and table to another
 pub record Went (text : List ℕ) (num : ℕ) (l m : List ℤ) (s r : State) : Type 0 where

@@ -7,7 +7,7 @@ ghost use Rattle.output.specs.Over.{clearedFrom};
 ghost use Rattle.shape.specs.Stored.{valuesOf};
 ghost use Rattle.expanding.specs.Expand.{plainOf, sumsOf, freshOf, traceOf};
 ghost use Rattle.expanding.specs.Alone.{Expansion};
-ghost use Rattle.expanding.specs.Inside.{NextIs, judged, told, Ran, Went, PairWent, LaidAll};
+ghost use Rattle.expanding.specs.Inside.{NextIs, judged, told, Ran, Begun, Went, PairWent, LaidAll};
 use numeral::Decimal;
 use numeral::Natural;
 use shape::Count;
@@ -22,12 +22,14 @@ enum Next {
     End,
 }
 
-// Where expanding stands: the place in the text, how many samples there are, and their sum so far; behind a value, also that value.
+// Where expanding stands: the place in the text, how many samples there are, and their sum so far; also the value in front of that place, which
+// is fresh and not laid yet, or laid and possibly repeated.
 enum State {
     Fresh {
         from: usize,
         at: usize,
         sum: i64,
+        value: Decimal,
     },
     Repeat {
         from: usize,
@@ -97,6 +99,21 @@ fn lay_run(samples: &mut [i64], num: usize, at: usize, sum: i64, d: Decimal, n: 
     Sum::Value(s)
 }
 
+// Where the next value is fresh: that value, or the end.
+fn next_fresh(stored: &[u8], from: usize, at: usize, sum: i64) -> State
+    ensures { λ r. ⌜ Begun (now (stored .entry)) from at sum r ⌝ }
+{
+    match next_value(stored, from) {
+        Next::Value(d, behind) => State::Fresh {
+            from: behind,
+            at: at,
+            sum: sum,
+            value: d,
+        },
+        Next::End => State::Done(at),
+    }
+}
+
 // Behind a pair of equal values, the second of which is d and not laid yet: its count, and the run that it makes.
 fn take_pair(
     stored: &[u8],
@@ -115,11 +132,7 @@ fn take_pair(
             Natural::Value(n) => {
                 let more = n as usize + 1;
                 match lay_run(samples, num, at, sum, d, more) {
-                    Sum::Value(s) => State::Fresh {
-                        from: behind,
-                        at: at + more,
-                        sum: s,
-                    },
+                    Sum::Value(s) => next_fresh(stored, behind, at + more, s),
                     Sum::Beyond => State::Bad,
                 }
             }
@@ -129,33 +142,7 @@ fn take_pair(
     }
 }
 
-// Takes a fresh value.
-fn take_fresh(
-    stored: &[u8],
-    samples: &mut [i64],
-    num: usize,
-    from: usize,
-    at: usize,
-    sum: i64,
-) -> State
-    requires { ⌜ at ≤ num ⌝ }
-    ensures { λ r. ⌜ Went (now (stored .entry)) num (now (samples .entry)) (now (samples .exit)) (State.Fresh from at sum) r ⌝ }
-{
-    match next_value(stored, from) {
-        Next::Value(d, behind) => match lay_run(samples, num, at, sum, d, 1) {
-            Sum::Value(s) => State::Repeat {
-                from: behind,
-                at: at + 1,
-                sum: s,
-                last: d,
-            },
-            Sum::Beyond => State::Bad,
-        },
-        Next::End => State::Done(at),
-    }
-}
-
-// Behind the value `last`: takes a pair with its count, or hands back a value that is fresh.
+// Behind the value `last`: takes a pair with its count, or hands back another value, which is fresh.
 fn take_repeat(
     stored: &[u8],
     samples: &mut [i64],
@@ -174,16 +161,17 @@ fn take_repeat(
                 return take_pair(stored, samples, num, behind, at, sum, d);
             }
             State::Fresh {
-                from: from,
+                from: behind,
                 at: at,
                 sum: sum,
+                value: d,
             }
         }
         Next::End => State::Done(at),
     }
 }
 
-// A fresh value hands on to a possible repeat. When no more calls may be open, the state goes back to whoever called first.
+// A fresh value is laid and hands on to a possible repeat. When no more calls may be open, the state goes back to whoever called first.
 fn fresh(
     stored: &[u8],
     samples: &mut [i64],
@@ -191,25 +179,25 @@ fn fresh(
     from: usize,
     at: usize,
     sum: i64,
+    value: Decimal,
     open: usize,
 ) -> State
     requires { ⌜ at ≤ num ⌝ }
-    ensures { λ r. ⌜ Went (now (stored .entry)) num (now (samples .entry)) (now (samples .exit)) (State.Fresh from at sum) r ⌝ }
+    ensures { λ r. ⌜ Went (now (stored .entry)) num (now (samples .entry)) (now (samples .exit)) (State.Fresh from at sum value) r ⌝ }
 {
-    let state = take_fresh(stored, samples, num, from, at, sum);
-    if open == 0 {
-        return state;
-    }
-    let State::Repeat {
-        from,
-        at,
-        sum,
-        last,
-    } = state
-    else {
-        return state;
+    let Sum::Value(s) = lay_run(samples, num, at, sum, value, 1) else {
+        return State::Bad;
     };
-    repeat(stored, samples, num, from, at, sum, last, open - 1)
+    let next = at + 1;
+    if open == 0 {
+        return State::Repeat {
+            from: from,
+            at: next,
+            sum: s,
+            last: value,
+        };
+    }
+    repeat(stored, samples, num, from, next, s, value, open - 1)
 }
 
 // A repeat hands back after its count.
@@ -230,25 +218,32 @@ fn repeat(
     if open == 0 {
         return state;
     }
-    let State::Fresh { from, at, sum } = state else {
+    let State::Fresh {
+        from,
+        at,
+        sum,
+        value,
+    } = state
+    else {
         return state;
     };
-    fresh(stored, samples, num, from, at, sum, open - 1)
+    fresh(stored, samples, num, from, at, sum, value, open - 1)
 }
 
 // Lays run-length samples: at most 256 calls are open, and then this loop goes on.
 fn lay_runs(stored: &[u8], samples: &mut [i64], num: usize) -> bool
     ensures { λ r. ⌜ told r (now (samples .exit)) ≡ judged num (now (samples .entry)) 0 (sumsOf (pos 0) (freshOf (valuesOf (now (stored .entry))))) ⌝ }
 {
-    let mut state = State::Fresh {
-        from: 0,
-        at: 0,
-        sum: 0,
-    };
+    let mut state = next_fresh(stored, 0, 0, 0);
     loop {
         match state {
-            State::Fresh { from, at, sum } => {
-                state = fresh(stored, samples, num, from, at, sum, 255);
+            State::Fresh {
+                from,
+                at,
+                sum,
+                value,
+            } => {
+                state = fresh(stored, samples, num, from, at, sum, value, 255);
             }
             State::Repeat {
                 from,

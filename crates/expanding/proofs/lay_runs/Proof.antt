@@ -12,7 +12,7 @@ use lib.ListN.{length}
 use Rattle.signed.proofs.Machine.{rd-at}
 use Rattle.expanding.specs.Expand.{freshOf, sumsOf}
 use Rattle.shape.specs.Stored.{valuesOf}
-use Rattle.expanding.specs.Inside.{judged, told, resume, weight, Ready, Went}
+use Rattle.expanding.specs.Inside.{judged, told, resume, weight, Ready, Begun, Went}
 use Rattle.expanding.specs.declared.State.{State}
 use Rattle.expanding.specs.declared.State.the-variants.{Fresh, Repeat, Done, Bad}
 use Rattle.expanding.proofs.Judging.{told-end}
@@ -26,9 +26,8 @@ record Standing (text : List ℕ) (num : ℕ) (l m : List ℤ) (s : State) : Typ
   long : length m ≡ length l
   same : resume text num m s ≡ judged num l 0 (sumsOf (pos 0) (freshOf (valuesOf text)))
 
-start : (text : List ℕ) (num : ℕ) (l : List ℤ) → Standing text num l l (Fresh 0 0 (pos 0))
-unfolding resume Ready
-start text num l = record { ready = omega arith; long = refl; same = refl }
+start : {text : List ℕ} (num : ℕ) (l : List ℤ) {s : State} → Begun text 0 0 (pos 0) s → Standing text num l l s
+start num l b = record { ready = b .ready num (omega arith); long = refl; same = b .same num l }
 
 -- a turn
 on : {text : List ℕ} {num : ℕ} {l m o : List ℤ} {s r : State} → Standing text num l m s → length o ≡ length m → Went text num m o s r → Standing text num l o r
@@ -46,7 +45,8 @@ unfolding resume told
 broken k e i = rw e at (i .same)
 
 -- what the next call asks
-fresh-asks : {text : List ℕ} {num : ℕ} {l m : List ℤ} {s : State} {from at : ℕ} {sum : ℤ} → s ≡ Fresh from at sum → Standing text num l m s → at ≤ num
+fresh-asks : {text : List ℕ} {num : ℕ} {l m : List ℤ} {s : State} {from at : ℕ} {sum : ℤ} {value : Decimal}
+    → s ≡ Fresh from at sum value → Standing text num l m s → at ≤ num
 unfolding Ready
 fresh-asks e i = rw e at (i .ready)
 
@@ -63,15 +63,18 @@ abbrev μ-loop : tie.MeasureT-loop
 
 -- ---- What the two calls did
 fresh-went : (c : tie.After-samples Inv-loop μ-loop) → let l = c .before .before .before .before .before .before in
-    Went (now (l .before .before .args .stored)) (l .before .before .args .num) (l .loop .samples) (c .before .fresh .last .1 .0) (l .loop .state) (c .before .fresh .result)
+    Went (now (l .before .before .before .args .stored)) (l .before .before .before .args .num) (l .loop .samples) (c .before .fresh .last .1 .0) (l .loop .state) (c .before .fresh .result)
 fresh-went c = rw (c .before .before .before .before .state .given .1) (rw (rd-at _ (c .before .before .before .known-told .given .1 .1 .0 .1)) at (c .before .fresh .ensures))
 
 repeat-went : (c : tie.After-samples2 Inv-loop μ-loop) → let l = c .before .before .before .before .before .before in
-    Went (now (l .before .before .args .stored)) (l .before .before .args .num) (l .loop .samples) (c .before .repeat .last .1 .0) (l .loop .state) (c .before .repeat .result)
+    Went (now (l .before .before .before .args .stored)) (l .before .before .before .args .num) (l .loop .samples) (c .before .repeat .last .1 .0) (l .loop .state) (c .before .repeat .result)
 repeat-went c = rw (c .before .before .before .before .state2 .given .1) (rw (rd-at _ (c .before .before .before .known-told2 .given .1 .1 .0 .1)) at (c .before .repeat .ensures))
 
+next-fresh-requires : tie.Need-next-fresh-requires Inv-loop μ-loop
+next-fresh-requires c κs = search needs
+
 loop-holds : tie.Need-loop-holds Inv-loop μ-loop
-loop-holds c = start _ _ _
+loop-holds c = start _ _ (c .next-fresh .ensures)
 
 enum-known-state : tie.Need-enum-known-state Inv-loop μ-loop
 enum-known-state c = search needs
@@ -121,6 +124,7 @@ lay-runs-spec =
     (tie.spec
     Inv-loop
     μ-loop
+    next-fresh-requires
     loop-holds
     enum-known-state
     fresh-requires

@@ -40,8 +40,11 @@ lay-run-requires c κs = search needs
 enum-known-s : tie.Need-enum-known-s
 enum-known-s c = search needs
 
-add-t22 : tie.Need-add-t22
-add-t22 c = omega (arith, c .before .before .before .before .lay-run .ensures .fits _ (c .before .s .given .1))
+add-next-fresh : tie.Need-add-next-fresh
+add-next-fresh c = omega (arith, c .before .before .before .before .lay-run .ensures .fits _ (c .before .s .given .1))
+
+next-fresh-requires : tie.Need-next-fresh-requires
+next-fresh-requires c κs = search needs
 
 enum-told : tie.Need-enum-told
 enum-told c = search needs
@@ -56,8 +59,9 @@ same-length : tie.Need-same-length
 same-length c = search needs
 
 returns : tie.Need-returns
-returns c = let b = c .before .before .before .before .before .before .before .before .before .before .before .before .before .before .before in
-    rw (rd-at _ (c .known-told3 .given .0 .1)) (pair-value _ _ _ _ _ _ _ _ _ (seen (c .before .before .before .before .before .before .before .before .before .before .before)) _ _ (count (c .before .before .before .before .before .before .before)) (rw (rd-is (b .fits .sum)) at (c .before .before .before .before .lay-run .ensures)) (c .before .s .given .1))
+returns c = let l = c .before .before .before .before .before in
+    pair-value _ _ _ _ _ _ _ _ _ (seen (c .before .before .before .before .before .before .before .before .before .before .before .before)) _ _ (count (c .before .before .before .before .before .before .before .before)) (rw (rd-is (c .before .before .before .before .before .before .before .before .before .before .before .before .before .before .before .before .fits .sum)) at (l .lay-run .ensures)) (c .before .before .s .given .1)
+    (rw (rd-at _ (c .before .known-told3 .given .0 .1)) at (c .next-fresh .ensures))
 
 same-length-2 : tie.Need-same-length-2
 same-length-2 c = search needs
@@ -83,7 +87,8 @@ take-pair-spec =
     add-more
     lay-run-requires
     enum-known-s
-    add-t22
+    add-next-fresh
+    next-fresh-requires
     enum-told
     enum-told-2
     enum-told-3
