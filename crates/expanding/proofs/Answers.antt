@@ -3,6 +3,7 @@ use Prim.Native.Nat.{ℕ, _-_, _+_, _≤_, _<_}
 use mathlib.Core.Bool.{Bool, true, false, _&&_, and-false}
 use mathlib.Core.List.{List}
 use mathlib.Core.Path.{_≡_, sym, _∙_}
+use mathlib.Core.Logic.{⊎-elim}
 use native.Mathlib.Omega.{arith}
 use borrow.Author.Tests.{le-leb, lt-leb, eqb-true}
 use lib.Dec.{eqb}
@@ -11,18 +12,18 @@ use lib.ListN.{length, take, drop, replicate}
 use lib.Seq.{sets, sets-eq, take-append-seam}
 use Rattle.text.specs.Lines.{linesOf}
 use Rattle.output.specs.Over.{clearedFrom}
-use Rattle.text.proofs.Cases.{and-both, cond-yes, cond-no}
+use Rattle.text.proofs.Cases.{true-or-false, and-both}
 use Rattle.shape.specs.Stored.{allSound, valuesOf, countOf}
 use Rattle.shape.specs.Samples.{isPlain}
 use Rattle.expanding.specs.Expand.{plainOf, sumsOf, freshOf, traceOf, samplesIn, endsWell, expandsTo, expansionOf}
 use Rattle.expanding.specs.Alone.{isCount, expandedOf, tableFrom, samplesAfter, tableOf, Expansion}
-use Rattle.expanding.specs.Inside.{judged, told, LaidAll}
+use Rattle.expanding.specs.Inside.{linesHold, judged, soundly, told, refusalOf, LaidAll}
 use Rattle.numeral.specs.declared.Decimal.{Decimal}
-use Rattle.shape.specs.declared.Count.the-variants.{Values, Faulty}
 use Rattle.shape.specs.declared.Edition.{Edition}
 use Rattle.shape.specs.declared.Expanded.{Expanded}
 use Rattle.shape.specs.declared.Expanded.the-variants.{Samples, Field, Shape, Room}
-use Rattle.expanding.proofs.Judging.{told-yes, told-no}
+use Rattle.expanding.proofs.Holding.{lines-hold}
+use Rattle.expanding.proofs.Judging.{told-sound, told-yes, told-no}
 
 -- ---- In one form or the other
 pub trace-plain : (plain : Bool) (ds : List Decimal) → plain ≡ true → plainOf ds ≡ traceOf plain ds
@@ -33,22 +34,14 @@ pub trace-runs : (plain : Bool) (ds : List Decimal) → plain ≡ false → sums
 unfolding traceOf
 trace-runs plain ds e = rw e
 
--- ---- What the count of the values says
-values-are : (m n : ℕ) → Values m ≡ Values n → m ≡ n
-values-are m n e = cc
+-- ---- Why lines are refused that were not laid
+refusal-field : (text : List ℕ) → allSound (linesOf text) ≡ false → refusalOf (countOf text) ≡ Field
+unfolding countOf refusalOf
+refusal-field text e = rw e
 
-not-values : (n : ℕ) → Faulty ≡ Values n → ⊥
-not-values n e = let z : _≡_ {A = ℕ} 0 1 = cc in omega arith
-
-count-sound : (text : List ℕ) (n : ℕ) → countOf text ≡ Values n → (allSound (linesOf text) ≡ true) × (length (valuesOf text) ≡ n)
-unfolding countOf
-count-sound text n e =
-    let c = cond-yes (allSound (linesOf text)) (Values (length (valuesOf text))) (not-values n) e in
-    (c .0, values-are _ _ (c .1))
-
-count-faulty : (text : List ℕ) → countOf text ≡ Faulty → allSound (linesOf text) ≡ false
-unfolding countOf
-count-faulty text e = cond-no (allSound (linesOf text)) Faulty (λ h. not-values (length (valuesOf text)) (sym h)) e
+refusal-shape : (text : List ℕ) → allSound (linesOf text) ≡ true → refusalOf (countOf text) ≡ Shape
+unfolding countOf refusalOf
+refusal-shape text e = rw e
 
 -- ---- Before what was lent is cleared
 not-field : {A : Type 0} (n : ℕ) → Field ≡ Samples n → A
@@ -80,29 +73,45 @@ module _ (edition : Edition) (num : ℕ) (text : List ℕ) (l m : List ℤ) wher
   pub field-many : 1000000 < num → LaidAll edition num text l m Field
   field-many h = field (unfold isCount in rw (le-leb 1 num (omega arith), lt-leb num 1000000 h))
 
-  pub field-faulty : countOf text ≡ Faulty → LaidAll edition num text l m Field
-  field-faulty e = field (rw (count-faulty text e) (and-false (isCount num)))
+  module _ (some : 1 ≤ num) (few : num ≤ 1000000) (plain : Bool) (p : plain ≡ isPlain edition num (linesHold (linesOf text))) (r : Bool)
+      (t : told r m ≡ soundly (allSound (linesOf text)) (judged num l 0 (traceOf plain (valuesOf text)))) where
+    module _ (s : allSound (linesOf text) ≡ true) where
+      good : isCount num && allSound (linesOf text) ≡ true
+      unfolding isCount
+      good = rw (le-leb 1 num some, le-leb num 1000000 few, s)
 
-  module _ (some : 1 ≤ num) (few : num ≤ 1000000) (n : ℕ) (c : countOf text ≡ Values n) (plain : Bool) (p : plain ≡ isPlain edition num n) (r : Bool)
-      (t : told r m ≡ judged num l 0 (traceOf plain (valuesOf text))) where
-    good : isCount num && allSound (linesOf text) ≡ true
-    unfolding isCount
-    good = rw (le-leb 1 num some, le-leb num 1000000 few, count-sound text n c .0)
+      trace-is : traceOf plain (valuesOf text) ≡ expansionOf edition num (valuesOf text)
+      unfolding expansionOf valuesOf
+      trace-is = rw (p, lines-hold (linesOf text) s)
 
-    trace-is : traceOf plain (valuesOf text) ≡ expansionOf edition num (valuesOf text)
-    unfolding expansionOf
-    trace-is = rw (p, count-sound text n c .1)
+      told-is : told r m ≡ judged num l 0 (traceOf plain (valuesOf text))
+      unfolding soundly
+      told-is = rw s at t
 
-    pub laid-shape : r ≡ false → LaidAll edition num text l m Shape
-    unfolding expandedOf
-    laid-shape e = record { answer = rw (good, ← trace-is, told-no num l m (traceOf plain (valuesOf text)) r t e); laid = λ n q. not-shape n q }
+      shape : r ≡ false → LaidAll edition num text l m Shape
+      unfolding expandedOf
+      shape e =
+          record {
+            answer = rw (good, ← trace-is, told-no num l m (traceOf plain (valuesOf text)) r told-is e);
+            laid = λ n q. not-shape n q;
+          }
+
+    -- not laid: the count tells why
+    pub laid-refused : r ≡ false → (q : Expanded) → q ≡ refusalOf (countOf text) → LaidAll edition num text l m q
+    laid-refused e q f =
+        ⊎-elim (λ (s : allSound (linesOf text) ≡ true). rw (f, refusal-shape text s) (shape s e))
+        (λ (s : allSound (linesOf text) ≡ false). rw (f, refusal-field text s) (field (rw s (and-false (isCount num)))))
+        (true-or-false (allSound (linesOf text)))
 
     module _ (e : r ≡ true) where
       abbrev zs : List ℤ
       zs = samplesIn (expansionOf edition num (valuesOf text))
 
+      sound : allSound (linesOf text) ≡ true
+      sound = told-sound m r (allSound (linesOf text)) (judged num l 0 (traceOf plain (valuesOf text))) t e
+
       expands : (expandsTo num (expansionOf edition num (valuesOf text)) ≡ true) × (m ≡ sets l 0 zs)
-      expands = rw trace-is at (told-yes num l m (traceOf plain (valuesOf text)) r t e)
+      expands = rw (trace-is sound) at (told-yes num l m (traceOf plain (valuesOf text)) r (told-is sound) e)
 
       many : length zs ≡ num
       many =
@@ -111,7 +120,7 @@ module _ (edition : Edition) (num : ℕ) (text : List ℕ) (l m : List ℤ) wher
 
       pub laid-room : length l < num → LaidAll edition num text l m Room
       unfolding expandedOf
-      laid-room h = record { answer = rw (good, expands .0, lt-leb num (length l) h); laid = λ n q. not-room n q }
+      laid-room h = record { answer = rw (good sound, expands .0, lt-leb num (length l) h); laid = λ n q. not-room n q }
 
       front : num ≤ length l → take num m ≡ zs
       front h = rw (expands .1) (front-of zs l num many h)
@@ -120,7 +129,7 @@ module _ (edition : Edition) (num : ℕ) (text : List ℕ) (l m : List ℤ) wher
       unfolding expandedOf
       laid-samples h =
           record {
-            answer = rw (good, expands .0, le-leb num (length l) h);
+            answer = rw (good sound, expands .0, le-leb num (length l) h);
             laid = λ n q. record { count = samples-are num n q; many = many; front = front h };
           }
 

@@ -19,7 +19,7 @@ use Rattle.signed.specs.declared.Sum.the-variants.{Value as SumValue, Beyond}
 use Rattle.numeral.specs.declared.Decimal.{Decimal}
 use Rattle.shape.specs.Samples.{addOf}
 use Rattle.expanding.specs.Expand.{Trace, done, fault, next, repeated, thenSum, sumsOf, plainOf, samplesIn, endsWell, expandsTo}
-use Rattle.expanding.specs.Inside.{good, bad, judged, told}
+use Rattle.expanding.specs.Inside.{Verdict, good, bad, judged, soundly, told}
 
 -- ---- One sample, or none
 pub judged-next : (num : ℕ) (l : List ℤ) (at : ℕ) (r : Sum) (k : ℤ → Trace ℤ) (z : ℤ) → r ≡ SumValue z
@@ -110,6 +110,12 @@ pub judged-is : (num : ℕ) (l : List ℤ) (t : Trace ℤ) → judged num l 0 t 
 unfolding expandsTo
 judged-is num l t = judged-from num l 0 t ∙ rw (zero-add (length (samplesIn t)))
 
+-- ---- Where a line may be at fault
+pub soundly-bad : (b : Bool) → soundly b bad ≡ bad
+unfolding soundly
+soundly-bad true = refl
+soundly-bad false = refl
+
 -- ---- What a flag tells
 pub told-end : (at num : ℕ) (l : List ℤ) → told (eqb at num) l ≡ cond (eqb at num) (good l) bad
 unfolding told
@@ -124,6 +130,12 @@ never l e = let z : _≡_ {A = ℕ} 0 1 = cc in omega arith
 
 good-is : (l m : List ℤ) → good l ≡ good m → l ≡ m
 good-is l m e = cc
+
+-- that no line is at fault
+pub told-sound : (m : List ℤ) (r b : Bool) (v : Verdict) → told r m ≡ soundly b v → r ≡ true → b ≡ true
+unfolding told soundly
+told-sound m r true v e h = refl
+told-sound m r false v e h = absurd (never m (sym (rw h at e)))
 
 pub told-yes : (num : ℕ) (l m : List ℤ) (t : Trace ℤ) (r : Bool) → told r m ≡ judged num l 0 t → r ≡ true
     → (expandsTo num t ≡ true) × (m ≡ sets l 0 (samplesIn t))

@@ -16,10 +16,10 @@ use Rattle.numeral.specs.declared.Decimal.{Decimal}
 use Rattle.numeral.specs.declared.Natural.the-variants.{Value as NaturalValue, Bad as NaturalBad}
 use Rattle.expanding.specs.Expand.{fault, next, repeated, counted, freshOf, repeatOf, pairOf, sumsOf}
 use Rattle.shape.specs.Stored.{valuesAt}
-use Rattle.expanding.specs.Inside.{ValueAt, judged, ranTo, Ran, resume, weight, Ready, Begun, Went, PairWent}
+use Rattle.expanding.specs.Inside.{Verdict, bad, soundAt, ValueAt, EndAt, judged, soundly, ranTo, Ran, resume, weight, Ready, Begun, Went, PairWent}
 use Rattle.expanding.specs.declared.State.{State}
 use Rattle.expanding.specs.declared.State.the-variants.{Fresh, Repeat, Done, Bad}
-use Rattle.expanding.proofs.Judging.{judged-fault}
+use Rattle.expanding.proofs.Judging.{judged-fault, soundly-bad}
 
 -- ---- One move after another
 pub went-on : {text : List ℕ} {num : ℕ} {l m k : List ℤ} {s r q : State} → Went text num l m s r → Went text num m k r q → Went text num l k s q
@@ -49,16 +49,24 @@ module _ {text : List ℕ} {num : ℕ} {l m : List ℤ} {s : State} {from at : �
 
 module _ (text : List ℕ) (from at : ℕ) (sum : ℤ) where
   -- ---- Where the next value is fresh
-  pub begun-end : valuesAt text from ≡ [] → Begun text from at sum (Done at)
-  unfolding resume weight Ready freshOf sumsOf judged
-  begun-end e = record { same = λ num l. rw e; less = omega arith; ready = λ num h. tt }
+  pub begun-end : EndAt text from → Begun text from at sum (Done at)
+  unfolding resume weight Ready soundly freshOf sumsOf judged
+  begun-end e = record { same = λ num l. rw (e .sound, e .values); less = omega arith; ready = λ num h. tt }
+
+  pub begun-faulty : soundAt text from ≡ false → Begun text from at sum Bad
+  unfolding resume weight Ready soundly
+  begun-faulty e = record { same = λ num l. rw e; less = omega arith; ready = λ num h. tt }
 
   pub begun-value : (d : Decimal) (behind : ℕ) → ValueAt text from d behind → Begun text from at sum (Fresh behind at sum d)
   unfolding resume weight Ready
   begun-value d behind v =
-      record { same = λ num l. rw (v .values); less = let n = ap length (v .values) in omega arith; ready = λ num h. h }
+      record { same = λ num l. rw (v .sound, v .values); less = let n = ap length (v .values) in omega arith; ready = λ num h. h }
 
 module _ (text : List ℕ) (num : ℕ) (l : List ℤ) (from at : ℕ) (sum : ℤ) where
+  -- samples that are bad are so whether or not a line is at fault
+  refused : {v : Verdict} → v ≡ bad → bad ≡ soundly (soundAt text from) v
+  refused e = sym (ap (soundly (soundAt text from)) e ∙ soundly-bad (soundAt text from))
+
   -- ---- A fresh value
   module _ (d : Decimal) where
     fresh-run : (ds : List Decimal) → freshOf (d ∷ ds) ≡ repeated 1 d (repeatOf d ds)
@@ -69,7 +77,7 @@ module _ (text : List ℕ) (num : ℕ) (l : List ℤ) (from at : ℕ) (sum : ℤ
     unfolding resume weight Ready ranTo
     fresh-value s w e =
         record {
-          same = rw (fresh-run (valuesAt text from)) (sym (w .same (repeatOf d (valuesAt text from)) ∙ rw e));
+          same = ap (soundly (soundAt text from)) (rw (fresh-run (valuesAt text from)) (sym (w .same (repeatOf d (valuesAt text from)) ∙ rw e)));
           less = omega arith;
           ready = w .fits s e;
         }
@@ -78,7 +86,7 @@ module _ (text : List ℕ) (num : ℕ) (l : List ℤ) (from at : ℕ) (sum : ℤ
     unfolding resume weight Ready ranTo
     fresh-beyond w e =
         record {
-          same = rw (fresh-run (valuesAt text from)) (sym (w .same (repeatOf d (valuesAt text from)) ∙ rw e));
+          same = refused (rw (fresh-run (valuesAt text from)) (w .same (repeatOf d (valuesAt text from)) ∙ rw e));
           less = omega arith;
           ready = tt;
         }
@@ -92,7 +100,7 @@ module _ (text : List ℕ) (num : ℕ) (l : List ℤ) (from at : ℕ) (sum : ℤ
     pub repeat-other : (last : Decimal) → sameDecimal d last ≡ false → at ≤ num → Went text num l l (Repeat from at sum last) (Fresh behind at sum d)
     unfolding resume weight Ready
     repeat-other last h k =
-        record { same = rw (repeat-fresh last h); less = let n = ap length (v .values) in omega arith; ready = k }
+        record { same = rw (v .sound, repeat-fresh last h); less = let n = ap length (v .values) in omega arith; ready = k }
 
     repeat-pair : (last : Decimal) → sameDecimal d last ≡ true → repeatOf last (valuesAt text from) ≡ next d (pairOf d (valuesAt text behind))
     unfolding repeatOf
@@ -103,14 +111,18 @@ module _ (text : List ℕ) (num : ℕ) (l : List ℤ) (from at : ℕ) (sum : ℤ
     unfolding resume weight
     repeat-same last h w =
         record {
-          same = w .same ∙ rw (repeat-pair last h);
+          same = w .same ∙ rw (v .sound, repeat-pair last h);
           less = let n = ap length (v .values) in let k = w .less in omega arith;
           ready = w .ready;
         }
 
-  pub repeat-end : (last : Decimal) → valuesAt text from ≡ [] → Went text num l l (Repeat from at sum last) (Done at)
-  unfolding resume weight Ready
-  repeat-end last e = record { same = rw e (unfold freshOf sumsOf judged in refl); less = omega arith; ready = tt }
+  pub repeat-end : (last : Decimal) → EndAt text from → Went text num l l (Repeat from at sum last) (Done at)
+  unfolding resume weight Ready soundly freshOf sumsOf judged
+  repeat-end last e = record { same = rw (e .sound, e .values); less = omega arith; ready = tt }
+
+  pub repeat-faulty : (last : Decimal) → soundAt text from ≡ false → Went text num l l (Repeat from at sum last) Bad
+  unfolding resume weight Ready soundly
+  repeat-faulty last e = record { same = rw e; less = omega arith; ready = tt }
 
   -- ---- Behind a pair
   module _ (d : Decimal) where
@@ -118,9 +130,14 @@ module _ (text : List ℕ) (num : ℕ) (l : List ℤ) (from at : ℕ) (sum : ℤ
     unfolding freshOf
     pair-none e = rw e
 
-    pub pair-end : {m : List ℤ} → valuesAt text from ≡ [] → PairWent text num l m from at sum d Bad
+    pub pair-end : {m : List ℤ} → EndAt text from → PairWent text num l m from at sum d Bad
     unfolding resume weight Ready
-    pair-end e = record { same = rw (pair-none e) (sym (judged-fault num l at sum d)); less = omega arith; ready = tt }
+    pair-end e =
+        record { same = refused (rw (pair-none (e .values)) (judged-fault num l at sum d)); less = omega arith; ready = tt }
+
+    pub pair-faulty : {m : List ℤ} → soundAt text from ≡ false → PairWent text num l m from at sum d Bad
+    unfolding resume weight Ready soundly
+    pair-faulty e = record { same = rw e; less = omega arith; ready = tt }
 
     module _ (c : Decimal) (behind : ℕ) (v : ValueAt text from c behind) where
       pair-bad : wholeOf c 0 0 1000000 ≡ NaturalBad → pairOf d (valuesAt text from) ≡ fault
@@ -130,7 +147,7 @@ module _ (text : List ℕ) (num : ℕ) (l : List ℤ) (from at : ℕ) (sum : ℤ
       pub pair-uncounted : {m : List ℤ} → wholeOf c 0 0 1000000 ≡ NaturalBad → PairWent text num l m from at sum d Bad
       unfolding resume weight Ready
       pair-uncounted e =
-          record { same = rw (pair-bad e) (sym (judged-fault num l at sum d)); less = omega arith; ready = tt }
+          record { same = refused (rw (pair-bad e) (judged-fault num l at sum d)); less = omega arith; ready = tt }
 
       pair-run : (n : ℕ) → wholeOf c 0 0 1000000 ≡ NaturalValue n
           → next d (pairOf d (valuesAt text from)) ≡ repeated (n + 1) d (freshOf (valuesAt text behind))
@@ -142,7 +159,9 @@ module _ (text : List ℕ) (num : ℕ) (l : List ℤ) (from at : ℕ) (sum : ℤ
       unfolding ranTo
       pair-value {m} n s e w h b =
           record {
-            same = b .same num m ∙ rw (pair-run n e) (sym (w .same (freshOf (valuesAt text behind)) ∙ rw h));
+            same =
+                b .same num m
+                ∙ rw (v .sound) (ap (soundly (soundAt text behind)) (rw (pair-run n e) (sym (w .same (freshOf (valuesAt text behind)) ∙ rw h))));
             less = let k = ap length (v .values) in let j = b .less in omega arith;
             ready = b .ready num (w .fits s h);
           }
@@ -151,4 +170,4 @@ module _ (text : List ℕ) (num : ℕ) (l : List ℤ) (from at : ℕ) (sum : ℤ
           → PairWent text num l m from at sum d Bad
       unfolding resume weight Ready ranTo
       pair-beyond n e w h =
-          record { same = rw (pair-run n e) (sym (w .same (freshOf (valuesAt text behind)) ∙ rw h)); less = omega arith; ready = tt }
+          record { same = refused (rw (pair-run n e) (w .same (freshOf (valuesAt text behind)) ∙ rw h)); less = omega arith; ready = tt }

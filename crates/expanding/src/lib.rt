@@ -3,11 +3,13 @@ ghost use mathlib.Core.Path.{_≡_};
 ghost use Prim.Native.Nat.{_≤_};
 ghost use lib.IntN.{pos};
 ghost use lib.ListN.{set};
-ghost use Rattle.output.specs.Over.{clearedFrom};
-ghost use Rattle.shape.specs.Stored.{valuesOf};
+ghost use Rattle.text.specs.Lines.{linesOf};
+ghost use Rattle.text.specs.Marks.{markOf};
+ghost use Rattle.shape.specs.Stored.{allSound, valuesOf, countOf};
+ghost use Rattle.shape.specs.Samples.{isPlain};
 ghost use Rattle.expanding.specs.Expand.{plainOf, sumsOf, freshOf, traceOf};
 ghost use Rattle.expanding.specs.Alone.{Expansion};
-ghost use Rattle.expanding.specs.Inside.{NextIs, judged, told, Ran, Begun, Went, PairWent, LaidAll};
+ghost use Rattle.expanding.specs.Inside.{markHolds, linesHold, NextIs, judged, soundly, told, Ran, Begun, Went, PairWent, refusalOf, LaidAll};
 use numeral::Decimal;
 use numeral::Natural;
 use shape::Count;
@@ -15,11 +17,13 @@ use shape::Edition;
 use shape::Expanded;
 use shape::Item;
 use signed::Sum;
+use text::Mark;
 
-// The next value from a place on, with the place behind its line.
+// The next value from a place on, with the place behind its line; or that there is none, or that a line in front of it is at fault.
 enum Next {
     Value(Decimal, usize),
     End,
+    Bad,
 }
 
 // Where expanding stands: the place in the text, how many samples there are, and their sum so far; also the value in front of that place, which
@@ -41,7 +45,44 @@ enum State {
     Bad,
 }
 
-// The next value from a place on. Lines that hold none are passed over.
+// How many values a line holds, if it is not at fault: its mark tells.
+fn line_holds(line: &[u8]) -> usize
+    ensures { λ r. ⌜ r ≡ markHolds (markOf (now (line .entry))) ⌝ }
+{
+    match text::mark_of(line) {
+        Mark::Blank => 1,
+        Mark::Comment => 0,
+        Mark::Section => 1,
+        Mark::Plain => 1,
+    }
+}
+
+// How many values the lines hold, if none is at fault. No value is read.
+fn lines_hold(stored: &[u8]) -> usize
+    ensures { λ r. ⌜ r ≡ linesHold (linesOf (now (stored .entry))) ⌝ }
+{
+    let mut at = 0;
+    let mut n = 0;
+    while at < stored.len() {
+        let line = text::next_line(stored, at);
+        let stop = line.stop;
+        n += line_holds(&stored[at..stop]);
+        at = line.next;
+    }
+    n
+}
+
+// Are the stored values the samples themselves, if no line is at fault? Only 1.4 asks how many they are.
+fn are_samples(stored: &[u8], num: usize, edition: Edition) -> bool
+    ensures { λ r. ⌜ r ≡ isPlain edition num (linesHold (linesOf (now (stored .entry)))) ⌝ }
+{
+    match edition {
+        Edition::V13 => false,
+        Edition::V14 => shape::is_plain(edition, num, lines_hold(stored)),
+    }
+}
+
+// The next value from a place on. Comments are passed over.
 fn next_value(stored: &[u8], from: usize) -> Next
     ensures { λ r. ⌜ NextIs (now (stored .entry)) from r ⌝ }
 {
@@ -58,7 +99,7 @@ fn next_value(stored: &[u8], from: usize) -> Next
                 at = behind;
             }
             Item::Bad => {
-                at = behind;
+                return Next::Bad;
             }
         }
     }
@@ -99,7 +140,7 @@ fn lay_run(samples: &mut [i64], num: usize, at: usize, sum: i64, d: Decimal, n: 
     Sum::Value(s)
 }
 
-// Where the next value is fresh: that value, or the end.
+// Where the next value is fresh: that value, or the end, or a fault.
 fn next_fresh(stored: &[u8], from: usize, at: usize, sum: i64) -> State
     ensures { λ r. ⌜ Begun (now (stored .entry)) from at sum r ⌝ }
 {
@@ -111,6 +152,7 @@ fn next_fresh(stored: &[u8], from: usize, at: usize, sum: i64) -> State
             value: d,
         },
         Next::End => State::Done(at),
+        Next::Bad => State::Bad,
     }
 }
 
@@ -139,6 +181,7 @@ fn take_pair(
             Natural::Bad => State::Bad,
         },
         Next::End => State::Bad,
+        Next::Bad => State::Bad,
     }
 }
 
@@ -168,6 +211,7 @@ fn take_repeat(
             }
         }
         Next::End => State::Done(at),
+        Next::Bad => State::Bad,
     }
 }
 
@@ -230,9 +274,9 @@ fn repeat(
     fresh(stored, samples, num, from, at, sum, value, open - 1)
 }
 
-// Lays run-length samples: at most 256 calls are open, and then this loop goes on.
+// Lays run-length samples, if no line is at fault: at most 256 calls are open, and then this loop goes on.
 fn lay_runs(stored: &[u8], samples: &mut [i64], num: usize) -> bool
-    ensures { λ r. ⌜ told r (now (samples .exit)) ≡ judged num (now (samples .entry)) 0 (sumsOf (pos 0) (freshOf (valuesOf (now (stored .entry))))) ⌝ }
+    ensures { λ r. ⌜ told r (now (samples .exit)) ≡ soundly (allSound (linesOf (now (stored .entry)))) (judged num (now (samples .entry)) 0 (sumsOf (pos 0) (freshOf (valuesOf (now (stored .entry)))))) ⌝ }
 {
     let mut state = next_fresh(stored, 0, 0, 0);
     loop {
@@ -263,9 +307,9 @@ fn lay_runs(stored: &[u8], samples: &mut [i64], num: usize) -> bool
     }
 }
 
-// Lays plain samples: each value is one.
+// Lays plain samples, if no line is at fault: each value is one.
 fn lay_plain(stored: &[u8], samples: &mut [i64], num: usize) -> bool
-    ensures { λ r. ⌜ told r (now (samples .exit)) ≡ judged num (now (samples .entry)) 0 (plainOf (valuesOf (now (stored .entry)))) ⌝ }
+    ensures { λ r. ⌜ told r (now (samples .exit)) ≡ soundly (allSound (linesOf (now (stored .entry)))) (judged num (now (samples .entry)) 0 (plainOf (valuesOf (now (stored .entry))))) ⌝ }
 {
     let mut from = 0;
     let mut at = 0;
@@ -289,18 +333,31 @@ fn lay_plain(stored: &[u8], samples: &mut [i64], num: usize) -> bool
             Next::End => {
                 return at == num;
             }
+            Next::Bad => {
+                return false;
+            }
         }
     }
 }
 
-// Lays the samples in one form or the other, and tells whether they are as many as declared.
+// Lays the samples in one form or the other, and tells whether no line is at fault and they are as many as declared.
 fn lay(stored: &[u8], samples: &mut [i64], num: usize, plain: bool) -> bool
-    ensures { λ r. ⌜ told r (now (samples .exit)) ≡ judged num (now (samples .entry)) 0 (traceOf plain (valuesOf (now (stored .entry)))) ⌝ }
+    ensures { λ r. ⌜ told r (now (samples .exit)) ≡ soundly (allSound (linesOf (now (stored .entry)))) (judged num (now (samples .entry)) 0 (traceOf plain (valuesOf (now (stored .entry))))) ⌝ }
 {
     if plain {
         return lay_plain(stored, samples, num);
     }
     lay_runs(stored, samples, num)
+}
+
+// Why stored lines are refused that were not laid: one is at fault, or they do not expand.
+fn refusal(stored: &[u8]) -> Expanded
+    ensures { λ r. ⌜ r ≡ refusalOf (countOf (now (stored .entry))) ⌝ }
+{
+    match shape::count_values(stored) {
+        Count::Values(_) => Expanded::Shape,
+        Count::Faulty => Expanded::Field,
+    }
 }
 
 // Lays the samples and answers, before what was lent is cleared.
@@ -313,18 +370,13 @@ fn lay_all(stored: &[u8], num: usize, edition: Edition, samples: &mut [i64]) -> 
     if 1000000 < num {
         return Expanded::Field;
     }
-    match shape::count_values(stored) {
-        Count::Values(n) => {
-            if !lay(stored, samples, num, shape::is_plain(edition, num, n)) {
-                return Expanded::Shape;
-            }
-            if samples.len() < num {
-                return Expanded::Room;
-            }
-            Expanded::Samples(num)
-        }
-        Count::Faulty => Expanded::Field,
+    if !lay(stored, samples, num, are_samples(stored, num, edition)) {
+        return refusal(stored);
     }
+    if samples.len() < num {
+        return Expanded::Room;
+    }
+    Expanded::Samples(num)
 }
 
 // Expands stored lines into num samples, in steps of 10^-12. What is lent holds the samples and then zeros; on a refusal, zeros.

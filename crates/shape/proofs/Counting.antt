@@ -20,7 +20,7 @@ pub values-end : (text : List ℕ) (at : ℕ) → length text ≤ at → valuesA
 unfolding valuesOf linesOf valuesIn
 values-end text at h = rw (drop-of-length-le text h)
 
-sound-end : (text : List ℕ) (at : ℕ) → length text ≤ at → allSound (linesOf (drop at text)) ≡ true
+pub sound-end : (text : List ℕ) (at : ℕ) → length text ≤ at → allSound (linesOf (drop at text)) ≡ true
 unfolding linesOf allSound
 sound-end text at h = rw (drop-of-length-le text h)
 
@@ -30,7 +30,7 @@ module _ {text : List ℕ} {at : ℕ} {r : Line} (l : LineAt text at r) {i : Ite
   unfolding valuesOf valuesIn
   values-line = rw (l .line, e)
 
-  sound-line : (b : Bool) → isSound i ≡ b → allSound (linesOf (drop at text)) ≡ cond b (allSound (linesOf (drop (r .next) text))) false
+  pub sound-line : (b : Bool) → isSound i ≡ b → allSound (linesOf (drop at text)) ≡ cond b (allSound (linesOf (drop (r .next) text))) false
   unfolding allSound
   sound-line true s = rw (l .line, e, s)
   sound-line false s = rw (l .line, e, s)

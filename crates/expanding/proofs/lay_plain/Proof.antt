@@ -1,7 +1,7 @@
 -- `expanding::lay_plain` meets its contract. The loop's invariant: what is left of the values, from here on, gives the whole. Assumes nothing.
 use Prim.Native.Nat.{ℕ, _+_, _-_, _≤_, _<_}
 use mathlib.Core.Bool.{false}
-use mathlib.Core.List.{List, []}
+use mathlib.Core.List.{List, _∷_}
 use mathlib.Core.Path.{_≡_, refl, sym, ap, _∙_}
 use native.Mathlib.Omega.{arith}
 use denote.Ref.{now}
@@ -13,9 +13,10 @@ use Rattle.signed.proofs.Machine.{rd-at}
 use Rattle.numeral.specs.declared.Decimal.{Decimal}
 use Rattle.shape.specs.Samples.{addOf}
 use Rattle.expanding.specs.Expand.{plainOf}
-use Rattle.shape.specs.Stored.{valuesOf, valuesAt}
-use Rattle.expanding.specs.Inside.{ValueAt, judged, told}
-use Rattle.expanding.proofs.Judging.{told-end, plain-step, plain-beyond, plain-late}
+use Rattle.text.specs.Lines.{linesOf}
+use Rattle.shape.specs.Stored.{allSound, valuesOf, valuesAt}
+use Rattle.expanding.specs.Inside.{soundAt, ValueAt, EndAt, bad, judged, soundly, told}
+use Rattle.expanding.proofs.Judging.{soundly-bad, told-end, plain-step, plain-beyond, plain-late}
 use borrow.Author.Needs.{needs}
 use Rattle.expanding.proofs.lay_plain.Statement.{statement}
 use Rattle.expanding.proofs.lay_plain.Tie as tie
@@ -24,31 +25,40 @@ use Rattle.expanding.proofs.lay_plain.Tie as tie
 record Laying (text : List ℕ) (num : ℕ) (l m : List ℤ) (from at : ℕ) : Type 0 where
   due : at ≤ num
   long : length m ≡ length l
-  same : judged num m at (plainOf (valuesAt text from)) ≡ judged num l 0 (plainOf (valuesOf text))
+  same : soundly (soundAt text from) (judged num m at (plainOf (valuesAt text from))) ≡ soundly (allSound (linesOf text)) (judged num l 0 (plainOf (valuesOf text)))
 
 start : (text : List ℕ) (num : ℕ) (l : List ℤ) → Laying text num l l 0 0
 start text num l = record { due = omega arith; long = refl; same = refl }
 
 module _ (text : List ℕ) (num : ℕ) (l m : List ℤ) (from at : ℕ) (i : Laying text num l m from at) where
   -- the values are at an end
-  finished : valuesAt text from ≡ [] → told (eqb at num) m ≡ judged num l 0 (plainOf (valuesOf text))
-  finished e = told-end at num m ∙ (unfold plainOf judged in rw e at (i .same))
+  finished : EndAt text from → told (eqb at num) m ≡ soundly (allSound (linesOf text)) (judged num l 0 (plainOf (valuesOf text)))
+  unfolding soundly plainOf judged
+  finished e = told-end at num m ∙ (rw (e .sound, e .values) at (i .same))
+
+  -- a line is at fault
+  faulty : (k : List ℤ) → soundAt text from ≡ false → told false k ≡ soundly (allSound (linesOf text)) (judged num l 0 (plainOf (valuesOf text)))
+  unfolding soundly told
+  faulty k e = rw e at (i .same)
 
   module _ (d : Decimal) (behind : ℕ) (v : ValueAt text from d behind) where
-    late : (k : List ℤ) → num ≤ at → told false k ≡ judged num l 0 (plainOf (valuesOf text))
+    -- the samples are bad
+    refused : (k : List ℤ) → judged num m at (plainOf (d ∷ valuesAt text behind)) ≡ bad → told false k ≡ soundly (allSound (linesOf text)) (judged num l 0 (plainOf (valuesOf text)))
     unfolding told
-    late k h = sym (plain-late num m at d (valuesAt text behind) h) ∙ (rw (v .values) at (i .same))
+    refused k e = sym (soundly-bad (soundAt text behind)) ∙ (rw (v .sound, v .values, e) at (i .same))
 
-    beyond : (k : List ℤ) → addOf (pos 0) d ≡ Beyond → told false k ≡ judged num l 0 (plainOf (valuesOf text))
-    unfolding told
-    beyond k e = sym (plain-beyond num m at d (valuesAt text behind) e) ∙ (rw (v .values) at (i .same))
+    late : (k : List ℤ) → num ≤ at → told false k ≡ soundly (allSound (linesOf text)) (judged num l 0 (plainOf (valuesOf text)))
+    late k h = refused k (plain-late num m at d (valuesAt text behind) h)
+
+    beyond : (k : List ℤ) → addOf (pos 0) d ≡ Beyond → told false k ≡ soundly (allSound (linesOf text)) (judged num l 0 (plainOf (valuesOf text)))
+    beyond k e = refused k (plain-beyond num m at d (valuesAt text behind) e)
 
     turn : (z : ℤ) (m′ : List ℤ) → at < num → addOf (pos 0) d ≡ SumValue z → m′ ≡ set m at z → Laying text num l m′ behind (at + 1)
     turn z m′ h e f =
         record {
           due = omega arith;
           long = ap length f ∙ length-set m at z ∙ i .long;
-          same = rw f (sym (plain-step num m at d (valuesAt text behind) z e) ∙ (rw (v .values) at (i .same)));
+          same = rw (f, ← plain-step num m at d (valuesAt text behind) z e) (rw (v .sound, v .values) at (i .same));
         }
 
 abbrev Inv-loop : tie.InvT-loop
@@ -115,6 +125,15 @@ same-length-3 c = c .before .before .before .loop .inv .long
 returns-3 : tie.Need-returns-3 Inv-loop μ-loop
 returns-3 c = finished _ _ _ _ _ _ (c .before .before .before .loop .inv) (rw (c .enum-told2 .given .1) at (c .before .before .next-value .ensures))
 
+enum-told-3 : tie.Need-enum-told-3 Inv-loop μ-loop
+enum-told-3 c = search needs
+
+same-length-4 : tie.Need-same-length-4 Inv-loop μ-loop
+same-length-4 c = c .before .before .before .loop .inv .long
+
+returns-4 : tie.Need-returns-4 Inv-loop μ-loop
+returns-4 c = faulty _ _ _ _ _ _ (c .before .before .before .loop .inv) _ (rw (c .enum-told3 .given .1) at (c .before .before .next-value .ensures))
+
 pub lay-plain-spec : {M : Type 1} → statement M
 lay-plain-spec =
     tie.close
@@ -137,4 +156,7 @@ lay-plain-spec =
     returns-2
     enum-told-2
     same-length-3
-    returns-3)
+    returns-3
+    enum-told-3
+    same-length-4
+    returns-4)

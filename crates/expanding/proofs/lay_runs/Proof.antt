@@ -11,8 +11,9 @@ use Rattle.numeral.specs.declared.Decimal.{Decimal}
 use lib.ListN.{length}
 use Rattle.signed.proofs.Machine.{rd-at}
 use Rattle.expanding.specs.Expand.{freshOf, sumsOf}
-use Rattle.shape.specs.Stored.{valuesOf}
-use Rattle.expanding.specs.Inside.{judged, told, resume, weight, Ready, Begun, Went}
+use Rattle.text.specs.Lines.{linesOf}
+use Rattle.shape.specs.Stored.{allSound, valuesOf}
+use Rattle.expanding.specs.Inside.{judged, soundly, told, resume, weight, Ready, Begun, Went}
 use Rattle.expanding.specs.declared.State.{State}
 use Rattle.expanding.specs.declared.State.the-variants.{Fresh, Repeat, Done, Bad}
 use Rattle.expanding.proofs.Judging.{told-end}
@@ -24,7 +25,7 @@ use Rattle.expanding.proofs.lay_runs.Tie as tie
 record Standing (text : List ℕ) (num : ℕ) (l m : List ℤ) (s : State) : Type 0 where
   ready : Ready num s
   long : length m ≡ length l
-  same : resume text num m s ≡ judged num l 0 (sumsOf (pos 0) (freshOf (valuesOf text)))
+  same : resume text num m s ≡ soundly (allSound (linesOf text)) (judged num l 0 (sumsOf (pos 0) (freshOf (valuesOf text))))
 
 start : {text : List ℕ} (num : ℕ) (l : List ℤ) {s : State} → Begun text 0 0 (pos 0) s → Standing text num l l s
 start num l b = record { ready = b .ready num (omega arith); long = refl; same = b .same num l }
@@ -35,12 +36,12 @@ on i h w = record { ready = w .ready; long = h ∙ i .long; same = w .same ∙ i
 
 -- the ends
 finished : {text : List ℕ} {num : ℕ} {l m : List ℤ} {s : State} (at : ℕ) → s ≡ Done at → Standing text num l m s
-    → told (eqb at num) m ≡ judged num l 0 (sumsOf (pos 0) (freshOf (valuesOf text)))
+    → told (eqb at num) m ≡ soundly (allSound (linesOf text)) (judged num l 0 (sumsOf (pos 0) (freshOf (valuesOf text))))
 unfolding resume
 finished {text} {num} {l} {m} at e i = told-end at num m ∙ (rw e at (i .same))
 
 broken : {text : List ℕ} {num : ℕ} {l m : List ℤ} {s : State} (k : List ℤ) → s ≡ Bad → Standing text num l m s
-    → told false k ≡ judged num l 0 (sumsOf (pos 0) (freshOf (valuesOf text)))
+    → told false k ≡ soundly (allSound (linesOf text)) (judged num l 0 (sumsOf (pos 0) (freshOf (valuesOf text))))
 unfolding resume told
 broken k e i = rw e at (i .same)
 

@@ -1,4 +1,4 @@
--- `expanding::next_value` meets its contract. The loop passes lines that hold no value (`Passing`). Assumes nothing.
+-- `expanding::next_value` meets its contract. The loop passes comments (`Passing`). Assumes nothing.
 use Prim.Native.Nat.{_-_}
 use lib.ListN.{length}
 use native.Mathlib.Omega.{arith}
@@ -58,15 +58,12 @@ loop-again c = let n = c .before .before .before .before in
 enum-told-2 : tie.Need-enum-told-2 Inv-loop μ-loop
 enum-told-2 c = search needs
 
-loop-less-2 : tie.Need-loop-less-2 Inv-loop μ-loop
-loop-less-2 c = let l = here (c .before .before .before .before) in omega (arith, l .further, l .inside)
-
-loop-again-2 : tie.Need-loop-again-2 Inv-loop μ-loop
-loop-again-2 c = let n = c .before .before .before .before in
+returns-2 : tie.Need-returns-2 Inv-loop μ-loop
+returns-2 c = let n = c .before .before .before .before in
     passing-bad (n .before .before .loop .inv) (here n) (sym (c .before .before .line-item .ensures) ∙ c .enum-told2 .given .1)
 
-returns-2 : tie.Need-returns-2 Inv-loop μ-loop
-returns-2 c = passing-end (c .before .loop .inv) (omega arith)
+returns-3 : tie.Need-returns-3 Inv-loop μ-loop
+returns-3 c = passing-end (c .before .loop .inv) (omega arith)
 
 pub next-value-spec : {M : Type 1} → statement M
 next-value-spec =
@@ -86,6 +83,5 @@ next-value-spec =
     loop-less
     loop-again
     enum-told-2
-    loop-less-2
-    loop-again-2
-    returns-2)
+    returns-2
+    returns-3)

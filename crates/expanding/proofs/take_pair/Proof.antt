@@ -7,7 +7,7 @@ use Rattle.numeral.specs.Worth.{wholeOf}
 use Rattle.numeral.specs.declared.Natural.the-variants.{Value as NaturalValue}
 use Rattle.numeral.proofs.Outcomes.{whole-range}
 use Rattle.expanding.specs.Inside.{ValueAt}
-use Rattle.expanding.proofs.Moves.{pair-end, pair-uncounted, pair-value, pair-beyond}
+use Rattle.expanding.proofs.Moves.{pair-end, pair-faulty, pair-uncounted, pair-value, pair-beyond}
 use borrow.Author.Needs.{needs}
 use Rattle.expanding.proofs.take_pair.Statement.{statement}
 use Rattle.expanding.proofs.take_pair.Tie as tie
@@ -55,6 +55,9 @@ enum-told-2 c = search needs
 enum-told-3 : tie.Need-enum-told-3
 enum-told-3 c = search needs
 
+enum-told-4 : tie.Need-enum-told-4
+enum-told-4 c = search needs
+
 same-length : tie.Need-same-length
 same-length c = search needs
 
@@ -76,6 +79,9 @@ returns-3 c = pair-uncounted _ _ _ _ _ _ _ _ _ (seen (c .before .before .before 
 returns-4 : tie.Need-returns-4
 returns-4 c = pair-end _ _ _ _ _ _ _ (rw (c .enum-told3 .given .1) at (c .before .before .next-value .ensures))
 
+returns-5 : tie.Need-returns-5
+returns-5 c = pair-faulty _ _ _ _ _ _ _ (rw (c .enum-told4 .given .1) at (c .before .before .next-value .ensures))
+
 pub take-pair-spec : {M : Type 1} → statement M
 take-pair-spec =
     tie.close
@@ -92,9 +98,11 @@ take-pair-spec =
     enum-told
     enum-told-2
     enum-told-3
+    enum-told-4
     same-length
     returns
     same-length-2
     returns-2
     returns-3
-    returns-4)
+    returns-4
+    returns-5)

@@ -3,7 +3,7 @@ use mathlib.Core.Path.{sym, _∙_}
 use denote.Ref.{now}
 use Rattle.signed.proofs.Machine.{rd-is}
 use Rattle.expanding.specs.Inside.{ValueAt}
-use Rattle.expanding.proofs.Moves.{repeat-end, repeat-other, repeat-same}
+use Rattle.expanding.proofs.Moves.{repeat-end, repeat-faulty, repeat-other, repeat-same}
 use borrow.Author.Needs.{needs}
 use Rattle.expanding.proofs.take_repeat.Statement.{statement}
 use Rattle.expanding.proofs.take_repeat.Tie as tie
@@ -34,12 +34,18 @@ returns c = let b = c .before .before .before .before .before .before .before .b
 enum-told : tie.Need-enum-told
 enum-told c = search needs
 
+enum-told-2 : tie.Need-enum-told-2
+enum-told-2 c = search needs
+
 returns-2 : tie.Need-returns-2
 returns-2 c = let b = c .before .before .before .before .before .before .before in
     rw (rd-is (b .fits .sum)) (repeat-other _ _ _ _ _ _ _ _ (seen (c .before .before .before)) _ (sym (c .before .same-decimal .ensures) ∙ c .if1 .left) (b .pre))
 
 returns-3 : tie.Need-returns-3
 returns-3 c = repeat-end _ _ _ _ _ _ _ (rw (c .enum-told .given .1) at (c .before .before .next-value .ensures))
+
+returns-4 : tie.Need-returns-4
+returns-4 c = repeat-faulty _ _ _ _ _ _ _ (rw (c .enum-told2 .given .1) at (c .before .before .next-value .ensures))
 
 pub take-repeat-spec : {M : Type 1} → statement M
 take-repeat-spec =
@@ -52,5 +58,7 @@ take-repeat-spec =
     same-length
     returns
     enum-told
+    enum-told-2
     returns-2
-    returns-3)
+    returns-3
+    returns-4)
