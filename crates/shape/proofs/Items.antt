@@ -2,27 +2,29 @@
 use Prim.Native.Nat.{ℕ}
 use mathlib.Core.Bool.{true, false}
 use mathlib.Core.List.{List, [], _∷_}
-use mathlib.Core.Path.{_≡_, refl, sym, ap, _∙_}
-use lib.ListN.{length, getD}
+use mathlib.Core.Path.{_≡_, sym}
 use Rattle.text.specs.Marks.{markOf, breaksLine}
 use Rattle.text.specs.declared.Mark.{Mark}
-use Rattle.text.proofs.Counted.{one-of}
+use Rattle.text.specs.declared.Mark.the-variants.{Plain}
+use Rattle.fields.specs.Fields.{fieldsOf}
 use Rattle.decimals.specs.Decimal.{decimalOf}
 use Rattle.decimals.specs.declared.Number.{Number}
 use Rattle.shape.specs.Stored.{numberItem, fieldsItem, markItem, itemOf}
 use Rattle.shape.specs.declared.Item.the-variants.{Bad}
 
 -- ---- by its fields
-pub item-other : (fs : List (List ℕ)) → (length fs ≡ 1 → ⊥) → Bad ≡ fieldsItem fs
+pub item-none : {fs : List (List ℕ)} → fs ≡ [] → Bad ≡ fieldsItem fs
 unfolding fieldsItem
-item-other [] n = refl
-item-other (f ∷ []) n = absurd (n refl)
-item-other (f ∷ g ∷ fs) n = refl
+item-none e = rw e
 
-pub item-one : (fs : List (List ℕ)) → length fs ≡ 1 → (f : List ℕ) → f ≡ getD fs 0 [] → (n m : Number) → n ≡ decimalOf f → n ≡ m
-    → numberItem m ≡ fieldsItem fs
-unfolding fieldsItem
-item-one fs h f p n m e k = ap numberItem (sym k ∙ e ∙ ap decimalOf p) ∙ ap fieldsItem (sym (one-of [] fs h))
+module _ {fs gs : List (List ℕ)} {f : List ℕ} (e : fs ≡ f ∷ gs) where
+  pub item-one : gs ≡ [] → {n : Number} (m : Number) → n ≡ decimalOf f → n ≡ m → numberItem m ≡ fieldsItem fs
+  unfolding fieldsItem
+  item-one h m d k = rw (e, h, ← d, k)
+
+  pub item-more : {g : List ℕ} {hs : List (List ℕ)} → gs ≡ g ∷ hs → Bad ≡ fieldsItem fs
+  unfolding fieldsItem
+  item-more h = rw (e, h)
 
 -- ---- by its mark
 module _ (line : List ℕ) where
@@ -33,3 +35,8 @@ module _ (line : List ℕ) where
   pub item-marked : breaksLine line ≡ false → (m : Mark) → markOf line ≡ m → markItem m line ≡ itemOf line
   unfolding itemOf
   item-marked e m k = rw (e, k)
+
+  -- a plain line that may stand in a file: its fields tell
+  pub item-plain : breaksLine line ≡ false → markOf line ≡ Plain → itemOf line ≡ fieldsItem (fieldsOf line)
+  unfolding markItem
+  item-plain e k = sym (item-marked e Plain k)

@@ -64,14 +64,21 @@ pub enum Count {
     Faulty,
 }
 
-// What the one field of a line holds; a line with none or with more is at fault.
-fn field_item(line: &[u8]) -> Item
+// What the one field of a line holds; a line with none or with more is at fault. Of a plain line that may stand in a file this is what it holds.
+pub fn plain_item(line: &[u8]) -> Item
     ensures { λ r. ⌜ r ≡ fieldsItem (fieldsOf (now (line .entry))) ⌝ }
 {
-    if fields::field_count(line) != 1 {
+    let field = fields::next_field(line, 0);
+    let start = field.start;
+    let stop = field.stop;
+    if line.len() <= start {
         return Item::Bad;
     }
-    match decimals::read_decimal(fields::field(line, 0)) {
+    let second = fields::next_field(line, stop);
+    if second.start < line.len() {
+        return Item::Bad;
+    }
+    match decimals::read_decimal(&line[start..stop]) {
         Number::Value(d) => Item::Value(d),
         Number::Bad => Item::Bad,
     }
@@ -86,7 +93,7 @@ pub fn line_item(line: &[u8]) -> Item
     }
     match text::mark_of(line) {
         Mark::Comment => Item::Skipped,
-        Mark::Plain => field_item(line),
+        Mark::Plain => plain_item(line),
         Mark::Blank => Item::Bad,
         Mark::Section => Item::Bad,
     }

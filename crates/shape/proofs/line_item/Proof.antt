@@ -1,8 +1,8 @@
 -- `shape::line_item` meets its contract. By cases on the mark. Assumes nothing.
 use mathlib.Core.Path.{sym, _∙_}
-use Rattle.text.specs.declared.Mark.the-variants.{Blank, Comment, Section, Plain}
+use Rattle.text.specs.declared.Mark.the-variants.{Blank, Comment, Section}
 use Rattle.shape.specs.Stored.{markItem}
-use Rattle.shape.proofs.Items.{item-broken, item-marked}
+use Rattle.shape.proofs.Items.{item-broken, item-marked, item-plain}
 use borrow.Author.Needs.{needs}
 use Rattle.shape.proofs.line_item.Statement.{statement}
 use Rattle.shape.proofs.line_item.Tie as tie
@@ -22,8 +22,8 @@ enum-told c = search needs
 enum-told-2 : tie.Need-enum-told-2
 enum-told-2 c = search needs
 
-field-item-requires : tie.Need-field-item-requires
-field-item-requires c κs = search needs
+plain-item-requires : tie.Need-plain-item-requires
+plain-item-requires c κs = search needs
 
 enum-told-3 : tie.Need-enum-told-3
 enum-told-3 c = search needs
@@ -37,9 +37,8 @@ returns-2 c = let m = c .before .before in
     item-marked _ (sym (m .before .before .breaks-line .ensures) ∙ m .before .if1 .left) Comment (sym (m .mark-of .ensures) ∙ c .enum-told .given .1)
 
 returns-3 : tie.Need-returns-3
-unfolding markItem
 returns-3 c = let m = c .before .before .before in
-    c .field-item .ensures ∙ item-marked _ (sym (m .before .before .breaks-line .ensures) ∙ m .before .if1 .left) Plain (sym (m .mark-of .ensures) ∙ c .before .enum-told2 .given .1)
+    c .plain-item .ensures ∙ sym (item-plain _ (sym (m .before .before .breaks-line .ensures) ∙ m .before .if1 .left) (sym (m .mark-of .ensures) ∙ c .before .enum-told2 .given .1))
 
 returns-4 : tie.Need-returns-4
 unfolding markItem
@@ -60,7 +59,7 @@ line-item-spec =
     mark-of-requires
     enum-told
     enum-told-2
-    field-item-requires
+    plain-item-requires
     enum-told-3
     enum-told-4
     returns-2
