@@ -1,0 +1,3 @@
+-- The laws of a set.
+pub mod Ways
+pub mod Keeping

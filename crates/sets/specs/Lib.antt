@@ -1,0 +1,2 @@
+-- What must be believed of a set of numbers in a slice.
+pub mod Sets
