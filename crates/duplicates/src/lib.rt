@@ -229,7 +229,7 @@ pub fn word_again(file: &[u8]) -> usize
 pub fn first_duplicate(file: &[u8], rows: &[i64], n: usize) -> usize
     ensures { λ r. ⌜ r ≡ duplicateLine (now (file .entry)) (now (rows .entry)) n ⌝ }
 {
-    let k = tables::first_again(rows, n);
+    let k = again::first_again(rows, n);
     let word = word_again(file);
     if k < n {
         return earlier(file::row_line(file, k), word);

@@ -270,7 +270,7 @@ fn judge_rows(
 )
     requires { ⌜ soundOf (now file) ≡ true ⌝ }
 {
-    let again = tables::first_again(table, rows);
+    let again = again::first_again(table, rows);
     if again < rows {
         show_refusal(9, file::row_line(file, again));
         return;

@@ -7,7 +7,7 @@ use native.Mathlib.Omega.{arith}
 use borrow.Author.Tests.{eq-eqb, ne-eqb}
 use lib.ListN.{length, getD, set, length-set}
 use Rattle.text.proofs.Cases.{eq-or-ne}
-use Rattle.sets.specs.Sets.{waySteps, wayFrom, wayOf, keptBy, storedBy, keptOf, placesAfter, Held}
+use Rattle.sets.specs.Sets.{waySteps, wayFrom, wayOf, keptBy, storedBy, keptOf, placesAfter, Held, Met}
 use Rattle.sets.specs.declared.Way.{Way}
 use Rattle.sets.specs.declared.Way.the-variants.{Held as WayHeld, Free, Blocked}
 use Rattle.sets.specs.declared.Kept.{Kept}
@@ -105,9 +105,6 @@ new-then-old places x e = go (wayOf places x) refl
     go Blocked q = absurd (full-new (kept-is places x Blocked q ∙ e))
 
 -- ---- so what was kept, or found no place, is never new again
-pub record Met (places : List ℕ) (x : ℕ) : Type 0 where
-  pub known : keptOf places x ≡ New → ⊥
-
 pub met-stays : {places : List ℕ} {x : ℕ} → Met places x → (y : ℕ) → Met (placesAfter places y) x
 met-stays {places} {x} met y = record { known = λ e. met .known (sym (answer-stays places x (met .known) y) ∙ e) }
 

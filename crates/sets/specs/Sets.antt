@@ -1,6 +1,6 @@
 -- A set of numbers in a slice: where a number is sought, what is met on its way, and what the slice holds after it was kept.
 use Prim.Native.Nat.{ℕ, zero, suc, _+_, _*_, _%_, _<_}
-use mathlib.Core.Bool.{cond}
+use mathlib.Core.Bool.{Bool, true, cond}
 use mathlib.Core.List.{List}
 use mathlib.Core.Path.{_≡_}
 use lib.Dec.{eqb}
@@ -56,6 +56,18 @@ pub record Held (places : List ℕ) (x : ℕ) : Type 0 where
   pub there : cell places x j ≡ x
   pub behind : (i : ℕ) → i < j → cell places x i ≡ 0 → ⊥
 
+-- ---- What was kept, or found no place, is not new to a set
+pub record Met (places : List ℕ) (x : ℕ) : Type 0 where
+  pub known : keptOf places x ≡ New → ⊥
+
+-- of the first k of things that have numbers, each that is asked for was met
+pub record AllMet (key : ℕ → ℕ) (asked : ℕ → Bool) (places : List ℕ) (k : ℕ) : Type 0 where
+  pub each : (j : ℕ) → j < k → asked j ≡ true → Met places (key j)
+
 -- ---- One number made of two, which spreads them evenly
 unfoldable pub mixed : ℕ → ℕ → ℕ
 mixed a b = (a % 17592186044399 * 1000003 + b % 1000003) % 17592186044399
+
+-- ---- Numbers in so many parts, by their remainders; where there are no parts, all are in each
+unfoldable pub isIn : ℕ → ℕ → ℕ → Bool
+isIn x parts part = cond (eqb parts 0) true (eqb (x % parts) part)

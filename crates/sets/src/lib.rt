@@ -1,6 +1,6 @@
 // A set of numbers in a lent slice, in which 0 is an empty place: a number is kept, or was kept before, or finds no place.
 ghost use mathlib.Core.Path.{_≡_};
-ghost use Rattle.sets.specs.Sets.{wayOf, keptOf, placesAfter, mixed};
+ghost use Rattle.sets.specs.Sets.{wayOf, keptOf, placesAfter, mixed, isIn};
 
 // What the way of a number meets first: the number itself, an empty place, or neither.
 enum Way {
@@ -63,4 +63,14 @@ pub fn mix(a: u64, b: u64) -> u64
     ensures { λ r. ⌜ r ≡ mixed a b ⌝ }
 {
     (a % 17592186044399 * 1000003 + b % 1000003) % 17592186044399
+}
+
+// Is a number in a part, of so many, by its remainder? Where there are no parts, it is in each.
+pub fn is_in(x: u64, parts: u64, part: u64) -> bool
+    ensures { λ r. ⌜ r ≡ isIn x parts part ⌝ }
+{
+    if parts == 0 {
+        return true;
+    }
+    x % parts == part
 }

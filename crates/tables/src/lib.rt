@@ -1,10 +1,8 @@
 // The tables: a row's numbers, the class that its ID belongs to, the first row with an ID, and the samples of a shape.
-ghost use Prim.Native.Nat.{_+_};
 ghost use mathlib.Core.Path.{_≡_};
 ghost use lib.IntN.{pos};
-ghost use lib.ListN.{length, take, drop};
-ghost use Rattle.tables.specs.Tables.{numberAt, classNumber, classAt, isRowOf, firstRow, isAgain, firstAgain, samplesAt};
-ghost use Rattle.tables.specs.Inside.{placeOf, Noted};
+ghost use lib.ListN.{take, drop};
+ghost use Rattle.tables.specs.Tables.{numberAt, classNumber, classAt, isRowOf, firstRow, isAgain, samplesAt};
 
 // What an ID is unique in.
 pub enum Class {
@@ -101,53 +99,6 @@ pub fn is_again(rows: &[i64], k: usize) -> bool
     let class = row_class(rows, k);
     let id = number(rows, k, 1);
     find(rows, k, class, id) < k
-}
-
-// Where the greatest ID of a class is noted, of 13 places: the classes of rows, 0 to 12, have one each.
-fn place_of(class: i64) -> usize
-    ensures { λ r. ⌜ r ≡ placeOf class ⌝ }
-{
-    (signed::size(class) % 13) as usize
-}
-
-// Does row k have the ID of a row before it in its class? An ID above the greatest that is noted in its class is
-// new, and is noted.
-fn is_again_noting(most: &mut [i64], rows: &[i64], k: usize) -> bool
-    requires { ⌜ Noted (now most) (now rows) k ⌝ }
-    ensures { λ r. ⌜ r ≡ isAgain (now (rows .entry)) k ⌝ }
-    ensures { λ r. ⌜ Noted (now (most .exit)) (now (rows .entry)) (k + 1) ⌝ }
-{
-    let at = place_of(row_class(rows, k));
-    let own = number(rows, k, 1);
-    if signed::less(most[at], own) {
-        most[at] = own;
-        return false;
-    }
-    is_again(rows, k)
-}
-
-// The first of n rows that has the ID of a row before it in its class, with the greatest IDs noted on the way; n if none has.
-fn first_again_noting(most: &mut [i64], rows: &[i64], n: usize) -> usize
-    requires { ⌜ length (now most) ≡ 13 ⌝ }
-    ensures { λ r. ⌜ r ≡ firstAgain (now (rows .entry)) n ⌝ }
-{
-    let mut k: usize = 0;
-    while k < n {
-        if is_again_noting(most, rows, k) {
-            return k;
-        }
-        k += 1;
-    }
-    n
-}
-
-// The first of n rows that has the ID of a row before it in its class; n if none has. One pass where IDs are above 0 and ascend in
-// their classes.
-pub fn first_again(rows: &[i64], n: usize) -> usize
-    ensures { λ r. ⌜ r ≡ firstAgain (now (rows .entry)) n ⌝ }
-{
-    let mut most = [0i64; 13];
-    first_again_noting(&mut most, rows, n)
 }
 
 // So many samples from a place on, as far as there are any.

@@ -1,9 +1,9 @@
--- `tables::place_of` meets its contract. Assumes nothing.
+-- `again::place_of` meets its contract. Assumes nothing.
+use Rattle.again.specs.Noting.{placeOf}
 use Rattle.signed.proofs.Machine.{rd-is}
-use Rattle.tables.specs.Inside.{placeOf}
 use borrow.Author.Needs.{needs}
-use Rattle.tables.proofs.place_of.Statement.{statement}
-use Rattle.tables.proofs.place_of.Tie as tie
+use Rattle.again.proofs.place_of.Statement.{statement}
+use Rattle.again.proofs.place_of.Tie as tie
 
 size-requires : tie.Need-size-requires
 size-requires c κs = search needs
