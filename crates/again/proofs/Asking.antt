@@ -12,14 +12,14 @@ use lib.ListN.{length}
 use Rattle.signed.specs.Signed.{sameZ}
 use Rattle.signed.proofs.Sign.{sameZ-true}
 use Rattle.text.proofs.Cases.{lt-or-ge, and-both, true-or-false}
-use Rattle.sets.specs.Sets.{keptOf, placesAfter, AllMet, isIn}
+use Rattle.sets.specs.Sets.{keptOf, placesAfter, AllMet, isIn, unlessNew}
 use Rattle.sets.specs.declared.Kept.{Kept}
 use Rattle.sets.specs.declared.Kept.the-variants.{New, Old, Full}
 use Rattle.sets.proofs.Passing.{all-start, new-unlike, in-own, part-low}
 use Rattle.tables.specs.Tables.{firstSuch, classAt, numberAt, isRowOf, firstRow, isAgain, firstAgain}
 use Rattle.tables.proofs.Found.{such-start, such-here, such-further, such-none, first-is}
 use Rattle.again.specs.Noting.{isOpen}
-use Rattle.again.specs.Inside.{Noted, idAt, keyAt, openOne, openCount, isAsked, againIn, unlessNew}
+use Rattle.again.specs.Inside.{Noted, idAt, keyAt, openOne, openCount, isAsked, againIn}
 
 -- ---- a row repeats nothing where no row before it is of its class and has its ID
 not-again : (rows : List ℤ) (k : ℕ) → ((j : ℕ) → j < k → classAt rows j ≡ classAt rows k → idAt rows j ≡ idAt rows k → ⊥) → isAgain rows k ≡ false
@@ -118,14 +118,6 @@ module _ (most rows : List ℤ) (parts part : ℕ) where
         go New n p = p ∙ sym (new-once n)
         go Old n p = p
         go Full n p = p
-
--- ---- what keeping answered, for the number as it was handed on
-module _ (places : List ℕ) (key x : ℕ) (q : x ≡ key) where
-  pub unless-as : (w v : Kept) → w ≡ keptOf places x → w ≡ v → (again b : Bool) → b ≡ unlessNew v again → b ≡ unlessNew (keptOf places key) again
-  unless-as w v e f again b p = rw (← q, ← e, f) p
-
-  pub places-as : {l : List ℕ} → l ≡ placesAfter places x → l ≡ placesAfter places key
-  places-as e = e ∙ rw q
 
 -- ---- the loop over rows that keeps numbers: the first such row is the first of those that are left
 pub record Keeping (start : List ℕ) (most rows : List ℤ) (n parts part : ℕ) (places : List ℕ) (k : ℕ) : Type 0 where

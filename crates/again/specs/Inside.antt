@@ -8,8 +8,6 @@ use lib.ListN.{getD}
 use lib.Signed.{ltZ}
 use Rattle.tables.specs.Tables.{numberAt, classAt, isAgain}
 use Rattle.sets.specs.Sets.{isIn}
-use Rattle.sets.specs.declared.Kept.{Kept}
-use Rattle.sets.specs.declared.Kept.the-variants.{New, Old, Full}
 use Rattle.again.specs.Noting.{placeOf, isOpen, keyOf}
 
 -- ---- Things with a class and an ID, one after the other: of the first k, each of a class that is not open is at most what is noted, and no thing
@@ -43,9 +41,3 @@ isAsked most rows parts part k = isOpen most (classAt rows k) && isIn (keyAt row
 -- such a row that repeats the ID of a row before it in its class
 unfoldable pub againIn : List ℤ → List ℤ → ℕ → ℕ → ℕ → Bool
 againIn most rows parts part k = isAsked most rows parts part k && isAgain rows k
-
--- a number that is new to a set repeats nothing; any other is looked at
-abbrev pub unlessNew : Kept → Bool → Bool
-unlessNew New again = false
-unlessNew Old again = again
-unlessNew Full again = again

@@ -1,10 +1,10 @@
 // The first row that repeats an ID of its class. Classes whose IDs ascend repeat none; what is met in the others is kept in a set, part by part.
 ghost use Prim.Native.Nat.{_+_, _≤_};
 ghost use mathlib.Core.Path.{_≡_};
-ghost use Rattle.sets.specs.Sets.{keptOf, placesAfter, AllMet};
+ghost use Rattle.sets.specs.Sets.{keptOf, placesAfter, unlessNew, AllMet};
 ghost use Rattle.tables.specs.Tables.{firstSuch, classAt, isAgain, firstAgain};
 ghost use Rattle.again.specs.Noting.{placeOf, noteAfter, noted, isOpen, keyOf};
-ghost use Rattle.again.specs.Inside.{Noted, idAt, keyAt, openOne, openCount, isAsked, againIn, unlessNew};
+ghost use Rattle.again.specs.Inside.{Noted, idAt, keyAt, openOne, openCount, isAsked, againIn};
 use sets::Kept;
 
 // Where it is noted of a class what IDs it has, of 13 places: the classes of rows, 0 to 12, have one each.

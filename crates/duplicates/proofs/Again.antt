@@ -18,9 +18,10 @@ use Rattle.tables.proofs.Found.{first-is}
 use Rattle.duplicates.specs.declared.Sort.{Sort}
 use Rattle.duplicates.specs.declared.Sort.the-variants.{Key, Name}
 use Rattle.duplicates.specs.Words.{Word, wordsOf, sortNumber, isSame, nextLine, againLine, rowAgainLine, duplicateLine}
+use Rattle.duplicates.specs.Inside.{MetAgain, wordLine, noWord, sameWord}
 use Rattle.duplicates.specs.Again.{FirstLine, wordNo, WordAgain, RowAgain, Duplicate, by-row, by-word}
-use Rattle.duplicates.proofs.First.{first-either, first-as, first-none, nextSuch, againSuch, MetAgain, again-first}
-use Rattle.duplicates.proofs.Rising.{wordLine, words-rise, rows-low, rows-ordered, rows-rise}
+use Rattle.duplicates.proofs.First.{first-either, first-as, first-none, nextSuch, againSuch, again-first}
+use Rattle.duplicates.proofs.Rising.{words-rise, rows-low, rows-ordered, rows-rise}
 
 -- ---- two words are the same where their sorts and bytes are
 same-sort : (a b : Sort) → sortNumber a ≡ sortNumber b → a ≡ b
@@ -30,29 +31,23 @@ same-sort Name Key e = absurd (omega arith)
 same-sort Name Name e = refl
 
 module _ (sort : Sort) (word : List ℕ) (v : Word) where
-  same-is : isSame sort word v ≡ true → (v .sort ≡ sort) × (v .word ≡ word)
+  pub same-is : isSame sort word v ≡ true → (v .sort ≡ sort) × (v .word ≡ word)
   unfolding isSame
   same-is e =
       let b = and-both (eqb (sortNumber (v .sort)) (sortNumber sort)) (sameBytes (v .word) word) e in
       (same-sort (v .sort) sort (eqb-true _ _ (b .0)), same-true (v .word) word (b .1))
 
-  is-same : v .sort ≡ sort → v .word ≡ word → isSame sort word v ≡ true
+  pub is-same : v .sort ≡ sort → v .word ≡ word → isSame sort word v ≡ true
   unfolding isSame
   is-same p q = rw (p, q, eq-eqb (sortNumber sort) (sortNumber sort) refl, same-refl word)
 
 -- ---- words that are met again, as the laws for all things say it
-abbrev sameWord : Word → Word → Bool
-sameWord w v = isSame (w .sort) (w .word) v
-
-abbrev noWord : Word
-noWord = record { line = 0; sort = Key; word = [] }
-
-next-such : (sort : Sort) (word : List ℕ) (ws : List Word) → nextSuch wordLine (isSame sort word) ws ≡ nextLine sort word ws
+pub next-such : (sort : Sort) (word : List ℕ) (ws : List Word) → nextSuch wordLine (isSame sort word) ws ≡ nextLine sort word ws
 unfolding nextSuch nextLine
 next-such sort word [] = refl
 next-such sort word (v ∷ vs) = rw (next-such sort word vs)
 
-again-such : (ws : List Word) → againSuch wordLine sameWord ws ≡ againLine ws
+pub again-such : (ws : List Word) → againSuch wordLine sameWord ws ≡ againLine ws
 unfolding againSuch againLine
 again-such [] = refl
 again-such (w ∷ ws) = rw (next-such (w .sort) (w .word) ws, again-such ws)

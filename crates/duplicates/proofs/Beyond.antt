@@ -7,6 +7,7 @@ use native.Mathlib.Omega.{arith}
 use borrow.Author.Tests.{eqb-false, eq-eqb, ne-eqb}
 use lib.Dec.{eqb}
 use lib.ListN.{getD}
+use Rattle.text.proofs.Cases.{and-both}
 use Rattle.places.specs.declared.State.{State}
 use Rattle.grammar.specs.Steps.{stepOf}
 use Rattle.file.specs.Whole.{isFault, gathered}
@@ -14,8 +15,8 @@ use Rattle.duplicates.specs.declared.Sort.{Sort}
 use Rattle.duplicates.specs.declared.Sort.the-variants.{Key, Name}
 use Rattle.duplicates.specs.declared.Once.{Once}
 use Rattle.duplicates.specs.declared.Once.the-variants.{Nothing, Word as OnceWord}
-use Rattle.duplicates.specs.Words.{onceOf, wordAt, wordsFrom, nextLine}
-use Rattle.duplicates.specs.Inside.{namesWord, sectionWith, wordSection, isLeft}
+use Rattle.duplicates.specs.Words.{onceOf, wordsIn, wordAt, wordsFrom, nextLine}
+use Rattle.duplicates.specs.Inside.{namesWord, sectionWith, wordSection, isLeft, allLeft}
 use Rattle.duplicates.proofs.Naming.{naming-miss, no-next}
 use Rattle.duplicates.proofs.Left.{onceSection, Left, silent-line}
 
@@ -67,3 +68,26 @@ none-beyond sort word st n (l ∷ ls) s =
 
 pub nothing-beyond : (sort : Sort) (word : List ℕ) (st : State) (n : ℕ) (ls : List (List ℕ)) → isLeft st sort ≡ true → 0 ≡ nextLine sort word (wordsFrom st n ls)
 nothing-beyond sort word st n ls e = sym (none-beyond sort word st n ls (left-is st sort e))
+
+-- ---- behind both sections no line names a word
+no-word : (n : ℕ) (line : List ℕ) (once : Once) → (onceSection once ≡ 2 → ⊥) → (onceSection once ≡ 8 → ⊥) → wordsIn n line once ≡ []
+unfolding wordsIn
+no-word n line Nothing a b = refl
+no-word n line (OnceWord Key) a b = absurd (a refl)
+no-word n line (OnceWord Name) a b = absurd (b refl)
+
+no-more-words : (st : State) (n : ℕ) (ls : List (List ℕ)) → Left 2 st → Left 8 st → wordsFrom st n ls ≡ []
+unfolding gathered wordAt
+no-more-words st n [] a b = refl
+no-more-words st n (l ∷ ls) a b =
+    let r = silent-line 2 (omega arith) st a n l in
+    let s = silent-line 8 (omega arith) st b n l in
+    go (isFault (stepOf st n l .found)) (no-word n l (onceOf (stepOf st n l)) (r .other) (s .other)) (no-more-words (stepOf st n l .next) (suc n) ls (r .left) (s .left))
+  where
+    go : (f : Bool) → wordsIn n l (onceOf (stepOf st n l)) ≡ [] → wordsFrom (stepOf st n l .next) (suc n) ls ≡ []
+        → cond f [] (wordsIn n l (onceOf (stepOf st n l)) ++ wordsFrom (stepOf st n l .next) (suc n) ls) ≡ []
+    go true p q = refl
+    go false p q = rw (p, q)
+
+pub nothing-named : (st : State) (n : ℕ) (ls : List (List ℕ)) → allLeft st ≡ true → [] ≡ wordsFrom st n ls
+nothing-named st n ls e = let b = and-both (isLeft st Key) (isLeft st Name) e in sym (no-more-words st n ls (left-is st Key (b .0)) (left-is st Name (b .1)))

@@ -9,6 +9,7 @@ use lib.ListN.{length, getD}
 use Rattle.text.proofs.Cases.{eq-or-ne}
 use Rattle.duplicates.specs.Words.{earlier}
 use Rattle.duplicates.specs.Again.{FirstLine}
+use Rattle.duplicates.specs.Inside.{MetAgain}
 use Rattle.duplicates.proofs.Lines.{EarlierIs, earlier-is}
 use Rattle.duplicates.proofs.Rising.{Rising, no-more, one-more, rising-low}
 
@@ -59,19 +60,10 @@ againSuch line same [] = 0
 againSuch line same (x ∷ xs) = earlier (nextSuch line (same x) xs) (againSuch line same xs)
 
 -- thing j is such a one, on this line
-record FoundAt {A : Type 0} (line : A → ℕ) (d : A) (holds : A → Bool) (xs : List A) (l : ℕ) : Type 0 where
-  j : ℕ
-  there : j < length xs
-  such : holds (getD xs j d) ≡ true
-  here : l ≡ line (getD xs j d)
-
--- thing j, on this line, is the same as thing i before it
-pub record MetAgain {A : Type 0} (line : A → ℕ) (d : A) (same : A → A → Bool) (xs : List A) (l : ℕ) : Type 0 where
-  pub i : ℕ
+pub record FoundAt {A : Type 0} (line : A → ℕ) (d : A) (holds : A → Bool) (xs : List A) (l : ℕ) : Type 0 where
   pub j : ℕ
-  pub before : i < j
   pub there : j < length xs
-  pub alike : same (getD xs i d) (getD xs j d) ≡ true
+  pub such : holds (getD xs j d) ≡ true
   pub here : l ≡ line (getD xs j d)
 
 module _ {A : Type 0} (line : A → ℕ) (d : A) where
@@ -92,7 +84,7 @@ module _ {A : Type 0} (line : A → ℕ) (d : A) where
           go zero t s h = absurd (true≢false (sym s ∙ e))
           go (suc j) t s h = record { j = j; there = omega arith; such = s; here = h }
 
-    next-is : {m : ℕ} {xs : List A} → 1 ≤ m → Rising line m xs → FirstLine (FoundAt line d holds xs) (nextSuch line holds xs)
+    pub next-is : {m : ℕ} {xs : List A} → 1 ≤ m → Rising line m xs → FirstLine (FoundAt line d holds xs) (nextSuch line holds xs)
     unfolding nextSuch
     next-is p no-more = first-none not-among
     next-is p (one-more {x = x} {xs = xs} l r) = go (holds x) refl (next-is (omega arith) r)

@@ -7,4 +7,6 @@ pub mod Beyond
 pub mod Rising
 pub mod First
 pub mod Again
+pub mod Parts
+pub mod WordParts
 pub mod Examples

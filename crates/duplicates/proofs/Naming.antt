@@ -14,9 +14,8 @@ use Rattle.duplicates.specs.declared.Sort.{Sort}
 use Rattle.duplicates.specs.declared.Sort.the-variants.{Name}
 use Rattle.duplicates.specs.declared.Once.{Once}
 use Rattle.duplicates.specs.declared.Once.the-variants.{Nothing, Word as OnceWord}
-use Rattle.duplicates.specs.Words.{Word, rowNames, foundNames, onceOf, wordOf, wordsIn, wordAt, sortNumber, isSame, nextLine, earlier, againLine}
-use Rattle.duplicates.specs.Inside.{namesWord, nextOf}
-use Rattle.duplicates.proofs.Lines.{earlier-second}
+use Rattle.duplicates.specs.Words.{Word, rowNames, foundNames, onceOf, wordOf, wordsIn, wordAt, sortNumber, isSame, nextLine}
+use Rattle.duplicates.specs.Inside.{namesWord}
 
 -- ---- what a line names
 pub names-extension : (kind : ℤ) → sameZ kind (pos 8) ≡ true → OnceWord Name ≡ rowNames kind
@@ -46,16 +45,6 @@ module _ (line : List ℕ) (once : Once) (sort : Sort) (word : List ℕ) where
     unfolding namesWord
     own-sort p = rw (e, eq-eqb (sortNumber own) (sortNumber sort) p)
 
--- ---- the next word that is the same as a line's
-module _ (line : List ℕ) (once : Once) (ws : List Word) where
-  pub next-nothing : once ≡ Nothing → 0 ≡ nextOf line once ws
-  unfolding nextOf
-  next-nothing e = rw e
-
-  pub next-word : (sort : Sort) → once ≡ OnceWord sort → (word : List ℕ) → word ≡ wordOf line sort → (r : ℕ) → r ≡ nextLine sort word ws → r ≡ nextOf line once ws
-  unfolding nextOf
-  next-word sort e word p r q = q ∙ rw (p, e)
-
 -- ---- a line's word in front of others
 module _ (n : ℕ) (line : List ℕ) (rest : List Word) where
   next-hit : (once : Once) (sort : Sort) (word : List ℕ) → namesWord line once sort word ≡ true → n ≡ nextLine sort word (wordsIn n line once ++ rest)
@@ -68,11 +57,6 @@ module _ (n : ℕ) (line : List ℕ) (rest : List Word) where
   next-miss Nothing sort word h = refl
   next-miss (OnceWord own) sort word h = rw h
 
-  front : (once : Once) → earlier (nextOf line once rest) (againLine rest) ≡ againLine (wordsIn n line once ++ rest)
-  unfolding wordsIn nextOf againLine
-  front Nothing = sym (earlier-second 0 (againLine rest) refl)
-  front (OnceWord own) = refl
-
 module _ (n : ℕ) (line : List ℕ) (s : Stepped) where
   module _ (sort : Sort) (word : List ℕ) (b : Bool) (q : b ≡ namesWord line (onceOf s) sort word) (rest : List Word) where
     pub naming-hit : b ≡ true → n ≡ nextLine sort word (wordAt n line s ++ rest)
@@ -83,15 +67,7 @@ module _ (n : ℕ) (line : List ℕ) (s : Stepped) where
     unfolding wordAt
     naming-miss h = next-miss n line rest (onceOf s) sort word (sym q ∙ h)
 
-  pub again-front : (rest : List Word) (next : ℕ) → next ≡ nextOf line (onceOf s) rest → earlier next (againLine rest) ≡ againLine (wordAt n line s ++ rest)
-  unfolding wordAt
-  again-front rest next q = rw q (front n line rest (onceOf s))
-
 -- ---- no word at all
 pub no-next : (sort : Sort) (word : List ℕ) → nextLine sort word [] ≡ 0
 unfolding nextLine
 no-next sort word = refl
-
-pub no-again : againLine [] ≡ 0
-unfolding againLine
-no-again = refl

@@ -51,6 +51,7 @@ use Rattle.file.specs.Rows.{Placed, rowAt, rowsFrom, rowsOf, lineOf}
 use Rattle.duplicates.specs.declared.Once.{Once}
 use Rattle.duplicates.specs.declared.Once.the-variants.{Nothing as NoWord, Word as OnceWord}
 use Rattle.duplicates.specs.Words.{Word, onceOf, wordsIn, wordAt, wordsFrom, wordsOf}
+use Rattle.duplicates.specs.Inside.{wordLine}
 
 -- ---- things with lines that rise, the first at line m or behind
 pub data Rising {A : Type 0} (line : A → ℕ) : ℕ → List A → Type 0 where
@@ -67,10 +68,14 @@ rising-low d no-more j h = absurd (omega arith)
 rising-low d (one-more l r) zero h = l
 rising-low {line = line} d (one-more {x = x} {xs = xs} l r) (suc j) h = let k = rising-low d r j (omega arith) in omega arith
 
--- ---- words
-abbrev pub wordLine : Word → ℕ
-wordLine w = w .line
+-- each stands before those behind it
+pub rising-order : {A : Type 0} {line : A → ℕ} {m : ℕ} {xs : List A} (d : A) → Rising line m xs → (j k : ℕ) → j < k → k < length xs → line (getD xs j d) < line (getD xs k d)
+rising-order d no-more j k l h = absurd (omega arith)
+rising-order d (one-more l r) j zero b h = absurd (omega arith)
+rising-order {line = line} d (one-more {x = x} l r) zero (suc k) b h = rising-low d r k (omega arith)
+rising-order d (one-more l r) (suc j) (suc k) b h = rising-order d r j k (omega arith) (omega arith)
 
+-- ---- words
 words-from : (st : State) (n : ℕ) (ls : List (List ℕ)) → Rising wordLine n (wordsFrom st n ls)
 unfolding gathered wordAt wordsIn
 words-from st n [] = no-more

@@ -1,15 +1,19 @@
 // What is met again in a file: a key among its definitions, a name among its extensions, an ID or type among its rows.
 ghost use mathlib.Core.Path.{_≡_};
 ghost use Prim.Native.Nat.{_+_, _≤_};
+ghost use lib.Dec.{ltb};
 ghost use lib.ListN.{drop};
 ghost use Rattle.text.specs.Lines.{linesOf};
-ghost use Rattle.duplicates.specs.Words.{rowNames, onceOf, wordOf, sortNumber, wordsFrom, wordsOf, nextLine, earlier, againLine, duplicateLine};
-ghost use Rattle.duplicates.specs.Inside.{namesWord, nextOf, sectionWith, linesSection, wordSection, isLeft};
+ghost use Rattle.sets.specs.Sets.{keptOf, placesAfter, unlessNew};
+ghost use Rattle.duplicates.specs.Words.{rowNames, onceOf, wordOf, sortNumber, wordAt, wordsFrom, wordsOf, nextLine, earlier, againLine, duplicateLine};
+ghost use Rattle.duplicates.specs.Inside.{namesWord, sectionWith, linesSection, wordSection, isLeft, allLeft, AskedAgain, inPart, askFirst, keepFirst, wordLine, noWord, sameWord, numberOf, wordNumber, anyWord, stoodBefore};
+ghost use Rattle.duplicates.specs.Again.{FirstLine};
 use places::Found;
 use places::Lines;
 use places::Place;
 use places::State;
 use places::Stepped;
+use sets::Kept;
 
 // The two sorts of words that may stand once in a file: keys of definitions, and names of extensions.
 pub enum Sort {
@@ -131,6 +135,16 @@ fn is_left(st: State, sort: Sort) -> bool
     st.seen[own]
 }
 
+// Were both sections of words met and left? Then no line names a word any more.
+fn all_left(st: State) -> bool
+    ensures { λ r. ⌜ r ≡ allLeft st ⌝ }
+{
+    if is_left(st, Sort::Key) {
+        return is_left(st, Sort::Name);
+    }
+    false
+}
+
 // The first line from a place on that names the word; 0 if none does. Nothing is read behind the section of such words.
 fn line_naming(
     file: &[u8],
@@ -168,18 +182,136 @@ fn line_naming(
     0
 }
 
-// The first line behind a line, which gave this, that names its word again; 0 if none does, or it names nothing.
-fn met_again(file: &[u8], line: &[u8], did: Stepped, from: usize, number: usize) -> usize
-    requires { ⌜ number ≤ from + 1 ⌝ }
-    ensures { λ r. ⌜ r ≡ nextOf (now (line .entry)) (onceOf did) (wordsFrom (did .next) number (linesOf (drop from (now (file .entry))))) ⌝ }
+// The number that a word of a sort is kept by.
+fn number_of(sort: Sort, word: &[u8]) -> u64
+    ensures { λ r. ⌜ r ≡ numberOf sort (now (word .entry)) ⌝ }
+{
+    sets::mix(sets::mix_all(sort_number(sort) as u64, word), 0)
+}
+
+// Does a line before this one name the word?
+fn stood_before(file: &[u8], line: usize, sort: Sort, word: &[u8]) -> bool
+    ensures { λ r. ⌜ r ≡ ltb (nextLine sort (now (word .entry)) (wordsOf (now (file .entry)))) line ⌝ }
+{
+    line_naming(file, 0, places::start(), 1, sort, word) < line
+}
+
+// Keeps a word that stands on this line by its number. Does a line before name it? None does if the number is new; else it is looked for.
+fn keep_word(
+    set: &mut [u64],
+    number: u64,
+    file: &[u8],
+    line: usize,
+    sort: Sort,
+    word: &[u8],
+) -> bool
+    ensures { λ r. ⌜ r ≡ unlessNew (keptOf (now (set .entry)) number) (ltb (nextLine sort (now (word .entry)) (wordsOf (now (file .entry)))) line) ⌝ }
+    ensures { λ r. ⌜ now (set .exit) ≡ placesAfter (now (set .entry)) number ⌝ }
+{
+    match sets::keep(set, number) {
+        Kept::New => false,
+        Kept::Old => stood_before(file, line, sort, word),
+        Kept::Full => stood_before(file, line, sort, word),
+    }
+}
+
+// Does line n, which gave this, name a word that is asked for in a part and stood before? Such a word is kept.
+fn names_again(
+    set: &mut [u64],
+    file: &[u8],
+    line: &[u8],
+    n: usize,
+    did: Stepped,
+    parts: u64,
+    part: u64,
+) -> bool
+    ensures { λ r. ⌜ r ≡ askFirst wordNumber (inPart wordNumber anyWord parts part) (stoodBefore (now (file .entry))) (now (set .entry)) (wordAt n (now (line .entry)) did) ⌝ }
+    ensures { λ r. ⌜ now (set .exit) ≡ keepFirst wordNumber (inPart wordNumber anyWord parts part) (now (set .entry)) (wordAt n (now (line .entry)) did) ⌝ }
+{
+    match once_of(did) {
+        Once::Nothing => false,
+        Once::Word(sort) => {
+            let word = word_of(line, sort);
+            let number = number_of(sort, word);
+            if sets::is_in(number, parts, part) {
+                return keep_word(set, number, file, n, sort, word);
+            }
+            false
+        }
+    }
+}
+
+// The first line at which a word that is asked for in a part is met again; 0 if there is none.
+fn first_kept(set: &mut [u64], file: &[u8], parts: u64, part: u64) -> usize
+    ensures { λ r. ⌜ FirstLine (AskedAgain wordLine noWord sameWord (inPart wordNumber anyWord parts part) (wordsOf (now (file .entry)))) r ⌝ }
+{
+    let mut st = places::start();
+    let mut at: usize = 0;
+    let mut n: usize = 1;
+    while at < file.len() {
+        if all_left(st) {
+            return 0;
+        }
+        let line = text::next_line(file, at);
+        let stop = line.stop;
+        let did = grammar::step(st, n, &file[at..stop]);
+        let found = did.found;
+        if file::is_fault(found) {
+            return 0;
+        }
+        if names_again(set, file, &file[at..stop], n, did, parts, part) {
+            return n;
+        }
+        n += 1;
+        at = line.next;
+        let next = did.next;
+        st = next;
+    }
+    0
+}
+
+// The same, with a set of its own.
+fn first_in(file: &[u8], parts: u64, part: u64) -> usize
+    ensures { λ r. ⌜ FirstLine (AskedAgain wordLine noWord sameWord (inPart wordNumber anyWord parts part) (wordsOf (now (file .entry)))) r ⌝ }
+{
+    let mut set = [0u64; 32749];
+    first_kept(&mut set, file, parts, part)
+}
+
+// How many words a line names that gave this: one or none.
+fn word_count(did: Stepped) -> usize
+    ensures { λ r. ⌜ r ≤ 1 ⌝ }
 {
     match once_of(did) {
         Once::Nothing => 0,
-        Once::Word(sort) => {
-            let next = did.next;
-            line_naming(file, from, next, number, sort, word_of(line, sort))
-        }
+        Once::Word(_) => 1,
     }
+}
+
+// How many words a file has, for the choice of parts.
+fn count_words(file: &[u8]) -> usize {
+    let mut st = places::start();
+    let mut at: usize = 0;
+    let mut n: usize = 1;
+    let mut count: usize = 0;
+    while at < file.len() {
+        if all_left(st) {
+            return count;
+        }
+        let line = text::next_line(file, at);
+        let stop = line.stop;
+        let did = grammar::step(st, n, &file[at..stop]);
+        let found = did.found;
+        if file::is_fault(found) {
+            return count;
+        }
+        count += word_count(did);
+        n += 1;
+        at = line.next;
+        let next = did.next;
+        st = next;
+    }
+    count
 }
 
 // The earlier of two lines, where 0 is none.
@@ -198,31 +330,26 @@ pub fn earlier(a: usize, b: usize) -> usize
     a
 }
 
+// The first line at which a key or a name is met again, by parts; 0 if there is none.
+fn first_of_parts(file: &[u8], parts: u64) -> usize
+    requires { ⌜ 1 ≤ parts ⌝ }
+    ensures { λ r. ⌜ r ≡ againLine (wordsOf (now (file .entry))) ⌝ }
+{
+    let mut first: usize = 0;
+    let mut part: u64 = 0;
+    while part < parts {
+        let again = first_in(file, parts, part);
+        first = earlier(first, again);
+        part += 1;
+    }
+    first
+}
+
 // The first line at which a key or a name is met again; 0 if there is none.
 pub fn word_again(file: &[u8]) -> usize
     ensures { λ r. ⌜ r ≡ againLine (wordsOf (now (file .entry))) ⌝ }
 {
-    let mut st = places::start();
-    let mut at: usize = 0;
-    let mut n: usize = 1;
-    let mut first: usize = 0;
-    while at < file.len() {
-        let line = text::next_line(file, at);
-        let stop = line.stop;
-        let behind = line.next;
-        let did = grammar::step(st, n, &file[at..stop]);
-        let found = did.found;
-        if file::is_fault(found) {
-            return first;
-        }
-        n += 1;
-        let again = met_again(file, &file[at..stop], did, behind, n);
-        first = earlier(first, again);
-        at = behind;
-        let next = did.next;
-        st = next;
-    }
-    first
+    first_of_parts(file, 1 + (count_words(file) / 16384) as u64)
 }
 
 // The first line at which a key, a name, or the ID or type of one of n rows is met again in its class; 0 if there is none.

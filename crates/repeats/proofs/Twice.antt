@@ -15,7 +15,8 @@ use Rattle.tables.specs.Tables.{numberAt, classAt, isRowOf}
 use Rattle.duplicates.specs.Words.{wordsOf, earlier, againLine}
 use Rattle.duplicates.specs.Again.{FirstLine, WordAgain}
 use Rattle.duplicates.proofs.Rising.{rowLine, rows-rise}
-use Rattle.duplicates.proofs.First.{first-either, first-as, nextSuch, againSuch, MetAgain, again-first}
+use Rattle.duplicates.specs.Inside.{MetAgain}
+use Rattle.duplicates.proofs.First.{first-either, first-as, nextSuch, againSuch, again-first}
 use Rattle.duplicates.proofs.Again.{again-is}
 use Rattle.file_tables.specs.Tables.{cellsOf}
 use Rattle.repeats.specs.Repeats.{isRowLike, nextRow, rowsAgain, duplicateOf}

@@ -6,11 +6,15 @@ use mathlib.Core.List.{List}
 use mathlib.Core.Logic.{_⊎_, inl, inr}
 use mathlib.Core.Path.{_≡_, sym, _∙_}
 use native.Mathlib.Nat.{mod-lt}
+use native.Mathlib.Numerals.{add-one}
 use native.Mathlib.Omega.{arith}
-use borrow.Author.Tests.{eq-eqb, ne-eqb}
+use borrow.Author.Tests.{eq-eqb, ne-eqb, eqb-true}
 use lib.Dec.{eqb}
+use lib.ListN.{length, getD, drop, drop-of-length-le}
+use lib.Seq.{drop-cons}
 use Rattle.text.proofs.Cases.{lt-or-ge}
-use Rattle.sets.specs.Sets.{keptOf, placesAfter, Met, AllMet, isIn}
+use Rattle.sets.specs.Sets.{keptOf, placesAfter, Met, unlessNew, AllMet, isIn, mixedAll, mixed}
+use Rattle.sets.specs.declared.Kept.{Kept}
 use Rattle.sets.specs.declared.Kept.the-variants.{New}
 use Rattle.sets.proofs.Keeping.{met-stays, met-now}
 
@@ -51,5 +55,25 @@ module _ (x parts : ℕ) where
     pub in-own : (part : ℕ) → x % parts ≡ part → isIn x parts part ≡ true
     in-own part e = sym (in-some part) ∙ eq-eqb (x % parts) part e
 
+    pub in-is : (part : ℕ) → isIn x parts part ≡ true → x % parts ≡ part
+    in-is part e = eqb-true (x % parts) part (in-some part ∙ e)
+
     pub part-low : x % parts < parts
     part-low = mod-lt x (omega arith)
+
+-- ---- what keeping answered, for the number as it was handed on
+module _ (places : List ℕ) (key x : ℕ) (q : x ≡ key) where
+  pub unless-as : (w v : Kept) → w ≡ keptOf places x → w ≡ v → (again b : Bool) → b ≡ unlessNew v again → b ≡ unlessNew (keptOf places key) again
+  unless-as w v e f again b p = rw (← q, ← e, f) p
+
+  pub places-as : {l : List ℕ} → l ≡ placesAfter places x → l ≡ placesAfter places key
+  places-as e = e ∙ rw q
+
+-- ---- the loop over bytes: those that are left make the same number
+pub mix-more : (h : ℕ) (s : List ℕ) (i : ℕ) → i < length s → mixedAll h (drop i s) ≡ mixedAll (mixed h (getD s i 0)) (drop (i + 1) s)
+unfolding mixedAll
+mix-more h s i l = rw (add-one i, drop-cons s i 0)
+
+pub mix-end : (h : ℕ) (s : List ℕ) (i : ℕ) → length s ≤ i → mixedAll h (drop i s) ≡ h
+unfolding mixedAll
+mix-end h s i l = rw (drop-of-length-le s l)

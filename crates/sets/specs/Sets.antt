@@ -1,7 +1,7 @@
 -- A set of numbers in a slice: where a number is sought, what is met on its way, and what the slice holds after it was kept.
 use Prim.Native.Nat.{ℕ, zero, suc, _+_, _*_, _%_, _<_}
-use mathlib.Core.Bool.{Bool, true, cond}
-use mathlib.Core.List.{List}
+use mathlib.Core.Bool.{Bool, true, false, cond}
+use mathlib.Core.List.{List, [], _∷_}
 use mathlib.Core.Path.{_≡_}
 use lib.Dec.{eqb}
 use lib.ListN.{length, getD, set}
@@ -60,6 +60,12 @@ pub record Held (places : List ℕ) (x : ℕ) : Type 0 where
 pub record Met (places : List ℕ) (x : ℕ) : Type 0 where
   pub known : keptOf places x ≡ New → ⊥
 
+-- what is asked of a thing by its number: nothing if the number is new, since it is then like nothing before it
+abbrev pub unlessNew : Kept → Bool → Bool
+unlessNew New again = false
+unlessNew Old again = again
+unlessNew Full again = again
+
 -- of the first k of things that have numbers, each that is asked for was met
 pub record AllMet (key : ℕ → ℕ) (asked : ℕ → Bool) (places : List ℕ) (k : ℕ) : Type 0 where
   pub each : (j : ℕ) → j < k → asked j ≡ true → Met places (key j)
@@ -67,6 +73,11 @@ pub record AllMet (key : ℕ → ℕ) (asked : ℕ → Bool) (places : List ℕ)
 -- ---- One number made of two, which spreads them evenly
 unfoldable pub mixed : ℕ → ℕ → ℕ
 mixed a b = (a % 17592186044399 * 1000003 + b % 1000003) % 17592186044399
+
+-- of a number and bytes, one after the other
+unfoldable pub mixedAll : ℕ → List ℕ → ℕ
+mixedAll h [] = h
+mixedAll h (b ∷ bs) = mixedAll (mixed h b) bs
 
 -- ---- Numbers in so many parts, by their remainders; where there are no parts, all are in each
 unfoldable pub isIn : ℕ → ℕ → ℕ → Bool

@@ -1,6 +1,6 @@
 // A set of numbers in a lent slice, in which 0 is an empty place: a number is kept, or was kept before, or finds no place.
 ghost use mathlib.Core.Path.{_≡_};
-ghost use Rattle.sets.specs.Sets.{wayOf, keptOf, placesAfter, mixed, isIn};
+ghost use Rattle.sets.specs.Sets.{wayOf, keptOf, placesAfter, mixed, mixedAll, isIn};
 
 // What the way of a number meets first: the number itself, an empty place, or neither.
 enum Way {
@@ -63,6 +63,19 @@ pub fn mix(a: u64, b: u64) -> u64
     ensures { λ r. ⌜ r ≡ mixed a b ⌝ }
 {
     (a % 17592186044399 * 1000003 + b % 1000003) % 17592186044399
+}
+
+// A number made of a number and bytes, one after the other.
+pub fn mix_all(start: u64, bytes: &[u8]) -> u64
+    ensures { λ r. ⌜ r ≡ mixedAll start (now (bytes .entry)) ⌝ }
+{
+    let mut made = start;
+    let mut i: usize = 0;
+    while i < bytes.len() {
+        made = mix(made, bytes[i] as u64);
+        i += 1;
+    }
+    made
 }
 
 // Is a number in a part, of so many, by its remainder? Where there are no parts, it is in each.

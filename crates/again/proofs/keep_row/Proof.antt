@@ -1,5 +1,5 @@
 -- `again::keep_row` meets its contract. Assumes nothing.
-use Rattle.again.proofs.Asking.{unless-as, places-as}
+use Rattle.sets.proofs.Passing.{unless-as, places-as}
 use Rattle.again.specs.Inside.{keyAt}
 use Rattle.again.specs.Noting.{keyOf}
 use Rattle.signed.proofs.Machine.{rd-at}
