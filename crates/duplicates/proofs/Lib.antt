@@ -9,4 +9,5 @@ pub mod First
 pub mod Again
 pub mod Parts
 pub mod WordParts
+pub mod Passed
 pub mod Examples

@@ -1,9 +1,11 @@
 // What is met again in a file: a key among its definitions, a name among its extensions, an ID or type among its rows.
 ghost use mathlib.Core.Path.{_≡_};
 ghost use Prim.Native.Nat.{_+_, _≤_};
+ghost use mathlib.Core.Bool.{true};
 ghost use lib.Dec.{ltb};
 ghost use lib.ListN.{drop};
 ghost use Rattle.text.specs.Lines.{linesOf};
+ghost use Rattle.passing.specs.Sound.{soundOf};
 ghost use Rattle.sets.specs.Sets.{keptOf, placesAfter, unlessNew};
 ghost use Rattle.duplicates.specs.Words.{rowNames, onceOf, wordOf, sortNumber, wordAt, wordsFrom, wordsOf, nextLine, earlier, againLine, duplicateLine};
 ghost use Rattle.duplicates.specs.Inside.{namesWord, sectionWith, linesSection, wordSection, isLeft, allLeft, AskedAgain, inPart, askFirst, keepFirst, wordLine, noWord, sameWord, numberOf, wordNumber, anyWord, stoodBefore};
@@ -243,35 +245,39 @@ fn names_again(
 
 // The first line at which a word that is asked for in a part is met again; 0 if there is none.
 fn first_kept(set: &mut [u64], file: &[u8], parts: u64, part: u64) -> usize
+    requires { ⌜ soundOf (now file) ≡ true ⌝ }
     ensures { λ r. ⌜ FirstLine (AskedAgain wordLine noWord sameWord (inPart wordNumber anyWord parts part) (wordsOf (now (file .entry)))) r ⌝ }
 {
     let mut st = places::start();
     let mut at: usize = 0;
     let mut n: usize = 1;
     while at < file.len() {
-        if all_left(st) {
-            return 0;
-        }
         let line = text::next_line(file, at);
         let stop = line.stop;
-        let did = grammar::step(st, n, &file[at..stop]);
-        let found = did.found;
-        if file::is_fault(found) {
-            return 0;
+        let behind = line.next;
+        if passing::passes(st, &file[at..stop]) {
+            at = behind;
+            n += 1;
+        } else {
+            if all_left(st) {
+                return 0;
+            }
+            let did = grammar::step(st, n, &file[at..stop]);
+            if names_again(set, file, &file[at..stop], n, did, parts, part) {
+                return n;
+            }
+            let next = did.next;
+            st = next;
+            at = behind;
+            n += 1;
         }
-        if names_again(set, file, &file[at..stop], n, did, parts, part) {
-            return n;
-        }
-        n += 1;
-        at = line.next;
-        let next = did.next;
-        st = next;
     }
     0
 }
 
 // The same, with a set of its own.
 fn first_in(file: &[u8], parts: u64, part: u64) -> usize
+    requires { ⌜ soundOf (now file) ≡ true ⌝ }
     ensures { λ r. ⌜ FirstLine (AskedAgain wordLine noWord sameWord (inPart wordNumber anyWord parts part) (wordsOf (now (file .entry)))) r ⌝ }
 {
     let mut set = [0u64; 32749];
@@ -295,21 +301,23 @@ fn count_words(file: &[u8]) -> usize {
     let mut n: usize = 1;
     let mut count: usize = 0;
     while at < file.len() {
-        if all_left(st) {
-            return count;
-        }
         let line = text::next_line(file, at);
         let stop = line.stop;
-        let did = grammar::step(st, n, &file[at..stop]);
-        let found = did.found;
-        if file::is_fault(found) {
-            return count;
+        let behind = line.next;
+        if passing::passes(st, &file[at..stop]) {
+            at = behind;
+            n += 1;
+        } else {
+            if all_left(st) {
+                return count;
+            }
+            let did = grammar::step(st, n, &file[at..stop]);
+            count += word_count(did);
+            let next = did.next;
+            st = next;
+            at = behind;
+            n += 1;
         }
-        count += word_count(did);
-        n += 1;
-        at = line.next;
-        let next = did.next;
-        st = next;
     }
     count
 }
@@ -333,6 +341,7 @@ pub fn earlier(a: usize, b: usize) -> usize
 // The first line at which a key or a name is met again, by parts; 0 if there is none.
 fn first_of_parts(file: &[u8], parts: u64) -> usize
     requires { ⌜ 1 ≤ parts ⌝ }
+    requires { ⌜ soundOf (now file) ≡ true ⌝ }
     ensures { λ r. ⌜ r ≡ againLine (wordsOf (now (file .entry))) ⌝ }
 {
     let mut first: usize = 0;
@@ -347,6 +356,7 @@ fn first_of_parts(file: &[u8], parts: u64) -> usize
 
 // The first line at which a key or a name is met again; 0 if there is none.
 pub fn word_again(file: &[u8]) -> usize
+    requires { ⌜ soundOf (now file) ≡ true ⌝ }
     ensures { λ r. ⌜ r ≡ againLine (wordsOf (now (file .entry))) ⌝ }
 {
     first_of_parts(file, 1 + (count_words(file) / 16384) as u64)
@@ -354,6 +364,7 @@ pub fn word_again(file: &[u8]) -> usize
 
 // The first line at which a key, a name, or the ID or type of one of n rows is met again in its class; 0 if there is none.
 pub fn first_duplicate(file: &[u8], rows: &[i64], n: usize) -> usize
+    requires { ⌜ soundOf (now file) ≡ true ⌝ }
     ensures { λ r. ⌜ r ≡ duplicateLine (now (file .entry)) (now (rows .entry)) n ⌝ }
 {
     let k = again::first_again(rows, n);

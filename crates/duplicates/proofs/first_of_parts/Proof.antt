@@ -31,10 +31,10 @@ loop-less : tie.Need-loop-less Inv-loop μ-loop
 loop-less c = omega (arith, c .before .before .loop-test .taken)
 
 loop-again : tie.Need-loop-again Inv-loop μ-loop
-loop-again c = parts-turn _ _ _ _ _ (c .before .before .before .before .before .pre) (c .before .before .before .loop .inv) (c .before .first-in .ensures) (c .earlier .ensures)
+loop-again c = parts-turn _ _ _ _ _ (c .before .before .before .before .before .pre .0) (c .before .before .before .loop .inv) (c .before .first-in .ensures) (c .earlier .ensures)
 
 returns : tie.Need-returns Inv-loop μ-loop
-returns c = word-parts _ (c .before .before .before .pre) (c .before .loop .inv) (c .loop-test .left)
+returns c = word-parts _ (c .before .before .before .pre .0) (c .before .loop .inv) (c .loop-test .left)
 
 pub first-of-parts-spec : {M : Type 1} → statement M
 first-of-parts-spec =
