@@ -18,8 +18,9 @@ use Rattle.sets.specs.declared.Kept.the-variants.{New, Old, Full}
 use Rattle.sets.proofs.Passing.{all-start, new-unlike, in-own, part-low}
 use Rattle.tables.specs.Tables.{firstSuch, classAt, numberAt, isRowOf, firstRow, isAgain, firstAgain}
 use Rattle.tables.proofs.Found.{such-start, such-here, such-further, such-none, first-is}
-use Rattle.again.specs.Noting.{isOpen}
-use Rattle.again.specs.Inside.{Noted, idAt, keyAt, openOne, openCount, isAsked, againIn}
+use Rattle.again.specs.Noting.{isOpen, allAscend}
+use Rattle.again.proofs.Noting.{ascend-closed}
+use Rattle.again.specs.Inside.{Noted, idAt, keyAt, isAsked, againIn}
 
 -- ---- a row repeats nothing where no row before it is of its class and has its ID
 not-again : (rows : List ℤ) (k : ℕ) → ((j : ℕ) → j < k → classAt rows j ≡ classAt rows k → idAt rows j ≡ idAt rows k → ⊥) → isAgain rows k ≡ false
@@ -48,43 +49,11 @@ first-only holds n r few here none =
     let high : r ≤ s = ⊎-elim (λ (l : s < r). absurd (true≢false (sym (f .here (omega arith)) ∙ none s l))) (λ h. h) (lt-or-ge s r) in
     omega arith
 
--- ---- how many rows are of open classes
-module _ (most rows : List ℤ) where
-  pub one-open : (k : ℕ) → isOpen most (classAt rows k) ≡ true → 1 ≡ openOne most rows k
-  unfolding openOne
-  one-open k e = rw e
-
-  pub none-open : (k : ℕ) → isOpen most (classAt rows k) ≡ false → 0 ≡ openOne most rows k
-  unfolding openOne
-  none-open k e = rw e
-
-  pub count-start : 0 ≡ openCount most rows 0
-  unfolding openCount
-  count-start = refl
-
-  pub count-turn : (k count one : ℕ) → count ≡ openCount most rows k → one ≡ openOne most rows k → count + one ≡ openCount most rows (k + 1)
-  unfolding openCount
-  count-turn k count one p q = rw (add-one k, p, q)
-
-  no-open : (n : ℕ) → openCount most rows n ≡ 0 → (k : ℕ) → k < n → isOpen most (classAt rows k) ≡ false
-  unfolding openCount
-  no-open zero e k l = absurd (omega arith)
-  no-open (suc n) e k l = go (no-open n) (lt-or-ge k n) (true-or-false (isOpen most (classAt rows k)))
-    where
-      go : (openCount most rows n ≡ 0 → (k : ℕ) → k < n → isOpen most (classAt rows k) ≡ false) → (k < n) ⊎ (n ≤ k)
-          → (isOpen most (classAt rows k) ≡ true) ⊎ (isOpen most (classAt rows k) ≡ false) → isOpen most (classAt rows k) ≡ false
-      go ih (inl h) b = ih (omega arith) k h
-      go ih (inr h) (inl t) = let s : n ≡ k = omega arith in let o = one-open k t in absurd (let z : openOne most rows k ≡ 0 = rw s at (last e) in omega arith)
-        where
-          last : openCount most rows n + openOne most rows n ≡ 0 → openOne most rows n ≡ 0
-          last q = omega arith
-      go ih (inr h) (inr f) = f
-
-  -- where none is, no row repeats an ID
-  pub all-ascend : (n count : ℕ) → Noted (classAt rows) (idAt rows) most n → count ≡ openCount most rows n → count ≡ 0 → n ≡ firstAgain rows n
-  unfolding firstAgain
-  all-ascend n count a p z =
-      first-only (isAgain rows) n n (omega arith) (λ (h : n < n). absurd (omega arith)) (λ j l. closed-once rows most n a j l (no-open n (sym p ∙ z) j l))
+-- ---- where all classes ascend, no row repeats an ID
+pub none-again : (most rows : List ℤ) (n : ℕ) → Noted (classAt rows) (idAt rows) most n → allAscend most ≡ true → n ≡ firstAgain rows n
+unfolding firstAgain
+none-again most rows n a e =
+    first-only (isAgain rows) n n (omega arith) (λ (h : n < n). absurd (omega arith)) (λ j l. closed-once rows most n a j l (ascend-closed most e (classAt rows j)))
 
 module _ (most rows : List ℤ) (parts part : ℕ) where
   -- ---- a row that is asked for, by the tests of the code

@@ -1,20 +1,21 @@
 -- What is noted of each class, on the way through things with a class and an ID: where it is noted that IDs ascend, none is met again. Assumes nothing.
-use Prim.Native.Nat.{ℕ, _+_, _≤_, _<_}
+use Prim.Native.Nat.{ℕ, zero, suc, _+_, _≤_, _<_}
 use mathlib.Core.Bool.{Bool, true, false, cond, true≢false}
-use mathlib.Core.List.{List}
+use mathlib.Core.List.{List, [], _∷_}
 use mathlib.Core.Logic.{_⊎_, inl, inr}
 use mathlib.Core.Path.{_≡_, refl, sym, ap, _∙_}
+use native.Mathlib.Numerals.{add-one}
 use native.Mathlib.Omega.{arith}
-use borrow.Author.Tests.{lt-ltb, le-ltb, ltb-true, ltb-false}
-use lib.Dec.{ltb}
+use borrow.Author.Tests.{lt-ltb, le-ltb, ltb-true, ltb-false, lt-leb, le-leb, leb-true}
+use lib.Dec.{ltb, leb}
 use lib.IntN.{ℤ, pos, negsuc}
-use lib.ListN.{length, getD, set, length-set}
-use lib.Seq.{getD-set-same, getD-set-other, set-out}
+use lib.ListN.{length, getD, set, drop, length-set, drop-of-length-le}
+use lib.Seq.{getD-set-same, getD-set-other, set-out, drop-cons}
 use lib.Signed.{ltZ}
 use Rattle.signed.specs.Signed.{sameZ, largest}
 use Rattle.signed.proofs.Sign.{sameZ-refl}
-use Rattle.text.proofs.Cases.{lt-or-ge, eq-or-ne}
-use Rattle.again.specs.Noting.{placeOf, noteAfter, noted, isOpen}
+use Rattle.text.proofs.Cases.{lt-or-ge, eq-or-ne, and-both, cond-no}
+use Rattle.again.specs.Noting.{placeOf, noteAfter, noted, isOpen, noneLargest, allAscend}
 use Rattle.again.specs.Inside.{Ascending, Noted}
 
 -- ---- what is not above m is not above a number that is
@@ -96,6 +97,52 @@ module _ (most : List ℤ) (class id : ℤ) (at : ℕ) (p : at ≡ placeOf class
   pub note-there : (next : ℤ) → next ≡ noteAfter (getD most at (pos 0)) id → set most at next ≡ noted most class id
   unfolding noted
   note-there next q = rw (← p, q)
+
+-- ---- all places: none has the largest number, so no class is open
+none-at : (most : List ℤ) → noneLargest most ≡ true → (i : ℕ) → i < length most → sameZ (getD most i (pos 0)) (pos largest) ≡ false
+unfolding noneLargest
+none-at [] e i l = absurd (omega arith)
+none-at (z ∷ zs) e zero l = cond-no (sameZ z (pos largest)) _ (λ q. true≢false (sym q)) e
+none-at (z ∷ zs) e (suc i) l = none-at zs (cond-rest (sameZ z (pos largest)) e) i (omega arith)
+  where
+    cond-rest : (b : Bool) → cond b false (noneLargest zs) ≡ true → noneLargest zs ≡ true
+    cond-rest true q = absurd (true≢false (sym q))
+    cond-rest false q = q
+
+place-low : (class : ℤ) → placeOf class < 13
+unfolding placeOf
+place-low class = omega arith
+
+pub ascend-closed : (most : List ℤ) → allAscend most ≡ true → (class : ℤ) → isOpen most class ≡ false
+unfolding allAscend
+ascend-closed most e class =
+    let b = and-both (leb 13 (length most)) (noneLargest most) e in
+    let h : placeOf class < length most = omega (arith, leb-true 13 (length most) (b .0), place-low class) in
+    sym (open-there most class h) ∙ none-at most (b .1) (placeOf class) h
+
+-- the loop over the places, by the tests of the code
+pub ascend-short : (most : List ℤ) → length most < 13 → false ≡ allAscend most
+unfolding allAscend
+ascend-short most h = rw (lt-leb 13 (length most) h)
+
+module _ (most : List ℤ) (enough : 13 ≤ length most) where
+  pub ascend-start : noneLargest (drop 0 most) ≡ allAscend most
+  unfolding allAscend
+  ascend-start = rw (le-leb 13 (length most) enough)
+
+  module _ (i : ℕ) (w : noneLargest (drop i most) ≡ allAscend most) where
+    pub ascend-end : length most ≤ i → true ≡ allAscend most
+    unfolding noneLargest
+    ascend-end h = rw (drop-of-length-le most h) at w
+
+    module _ (h : i < length most) where
+      pub ascend-not : sameZ (getD most i (pos 0)) (pos largest) ≡ true → false ≡ allAscend most
+      unfolding noneLargest
+      ascend-not e = rw (drop-cons most i (pos 0) h, e) at w
+
+      pub ascend-turn : sameZ (getD most i (pos 0)) (pos largest) ≡ false → noneLargest (drop (i + 1) most) ≡ allAscend most
+      unfolding noneLargest
+      ascend-turn e = rw (add-one i) (rw (drop-cons most i (pos 0) h, e) at w)
 
 -- ---- nothing is asked of what is noted at the start
 module _ (class id : ℕ → ℤ) where

@@ -1,6 +1,6 @@
 -- What the inner functions answer. Nothing here needs to be believed: laws lead from these to the definitions of the other files.
-use Prim.Native.Nat.{ℕ, zero, suc, _+_, _<_}
-use mathlib.Core.Bool.{Bool, false, cond, _&&_}
+use Prim.Native.Nat.{ℕ, _<_}
+use mathlib.Core.Bool.{Bool, false, _&&_}
 use mathlib.Core.List.{List}
 use mathlib.Core.Path.{_≡_}
 use lib.IntN.{ℤ, pos}
@@ -25,14 +25,6 @@ idAt rows k = numberAt rows k 1
 
 abbrev pub keyAt : List ℤ → ℕ → ℕ
 keyAt rows k = keyOf (classAt rows k) (idAt rows k)
-
--- how many rows of open classes row k is, and the first n rows are
-unfoldable pub openOne : List ℤ → List ℤ → ℕ → ℕ
-openOne most rows k = cond (isOpen most (classAt rows k)) 1 0
-
-unfoldable pub openCount : List ℤ → List ℤ → ℕ → ℕ
-openCount most rows zero = 0
-openCount most rows (suc n) = openCount most rows n + openOne most rows n
 
 -- is row k of an open class, and its number in a part?
 unfoldable pub isAsked : List ℤ → List ℤ → ℕ → ℕ → ℕ → Bool

@@ -1,8 +1,8 @@
 -- What is noted of the IDs of each class, on the way through the rows: the greatest, while they ascend. And the number that an ID is kept by.
 use Prim.Native.Nat.{ℕ, _%_}
-use mathlib.Core.Bool.{Bool, true, cond}
-use mathlib.Core.List.{List}
-use lib.Dec.{ltb}
+use mathlib.Core.Bool.{Bool, true, false, cond, _&&_}
+use mathlib.Core.List.{List, [], _∷_}
+use lib.Dec.{ltb, leb}
 use lib.IntN.{ℤ, pos, natAbs}
 use lib.ListN.{length, getD, set}
 use lib.Signed.{ltZ}
@@ -23,6 +23,14 @@ noted most class id = set most (placeOf class) (noteAfter (getD most (placeOf cl
 -- ---- A class is open where it is not noted that its IDs ascend
 unfoldable pub isOpen : List ℤ → ℤ → Bool
 isOpen most class = cond (ltb (placeOf class) (length most)) (sameZ (getD most (placeOf class) (pos 0)) (pos largest)) true
+
+-- none is, where each of the 13 places is lent and none has the largest number
+unfoldable pub noneLargest : List ℤ → Bool
+noneLargest [] = true
+noneLargest (z ∷ zs) = cond (sameZ z (pos largest)) false (noneLargest zs)
+
+unfoldable pub allAscend : List ℤ → Bool
+allAscend most = leb 13 (length most) && noneLargest most
 
 -- ---- The number that an ID of a class is kept by
 unfoldable pub keyOf : ℤ → ℤ → ℕ

@@ -3,8 +3,8 @@ ghost use Prim.Native.Nat.{_+_, _≤_};
 ghost use mathlib.Core.Path.{_≡_};
 ghost use Rattle.sets.specs.Sets.{keptOf, placesAfter, unlessNew, AllMet};
 ghost use Rattle.tables.specs.Tables.{firstSuch, classAt, isAgain, firstAgain};
-ghost use Rattle.again.specs.Noting.{placeOf, noteAfter, noted, isOpen, keyOf};
-ghost use Rattle.again.specs.Inside.{Noted, idAt, keyAt, openOne, openCount, isAsked, againIn};
+ghost use Rattle.again.specs.Noting.{placeOf, noteAfter, noted, isOpen, allAscend, keyOf};
+ghost use Rattle.again.specs.Inside.{Noted, idAt, keyAt, isAsked, againIn};
 use sets::Kept;
 
 // Where it is noted of a class what IDs it has, of 13 places: the classes of rows, 0 to 12, have one each.
@@ -50,6 +50,23 @@ pub fn is_open(most: &[i64], class: i64) -> bool
     true
 }
 
+// Is it noted of every class that its IDs ascend?
+pub fn all_ascend(most: &[i64]) -> bool
+    ensures { λ r. ⌜ r ≡ allAscend (now (most .entry)) ⌝ }
+{
+    if most.len() < 13 {
+        return false;
+    }
+    let mut i: usize = 0;
+    while i < most.len() {
+        if signed::same(most[i], 9223372036854775807) {
+            return false;
+        }
+        i += 1;
+    }
+    true
+}
+
 // The number that an ID of a class is kept by.
 pub fn key(class: i64, id: i64) -> u64
     ensures { λ r. ⌜ r ≡ keyOf class id ⌝ }
@@ -70,7 +87,6 @@ fn note_rows(most: &mut [i64], rows: &[i64], n: usize)
 
 // How many rows of open classes row k is: one or none.
 fn open_count(most: &[i64], rows: &[i64], k: usize) -> usize
-    ensures { λ r. ⌜ r ≡ openOne (now (most .entry)) (now (rows .entry)) k ⌝ }
     ensures { λ r. ⌜ r ≤ 1 ⌝ }
 {
     if is_open(most, tables::row_class(rows, k)) {
@@ -79,10 +95,8 @@ fn open_count(most: &[i64], rows: &[i64], k: usize) -> usize
     0
 }
 
-// How many of n rows are of open classes.
-fn count_open(most: &[i64], rows: &[i64], n: usize) -> usize
-    ensures { λ r. ⌜ r ≡ openCount (now (most .entry)) (now (rows .entry)) n ⌝ }
-{
+// How many of n rows are of open classes, for the choice of parts.
+fn count_open(most: &[i64], rows: &[i64], n: usize) -> usize {
     let mut count: usize = 0;
     let mut k: usize = 0;
     while k < n {
@@ -173,9 +187,9 @@ pub fn first_again(rows: &[i64], n: usize) -> usize
 {
     let mut most = [0i64; 13];
     note_rows(&mut most, rows, n);
-    let open = count_open(&most, rows, n);
-    if open == 0 {
+    if all_ascend(&most) {
         return n;
     }
+    let open = count_open(&most, rows, n);
     first_of_parts(&most, rows, n, 1 + (open / 16384) as u64)
 }

@@ -1,5 +1,6 @@
 -- `again::first_again` meets its contract. Assumes nothing.
-use Rattle.again.proofs.Asking.{all-ascend}
+use Rattle.again.proofs.Asking.{none-again}
+use mathlib.Core.Path.{sym, _∙_}
 use borrow.Author.Needs.{needs}
 use Rattle.again.proofs.first_again.Statement.{statement}
 use Rattle.again.proofs.first_again.Tie as tie
@@ -10,14 +11,20 @@ slice-aggregate-note-rows c = search needs
 note-rows-requires : tie.Need-note-rows-requires
 note-rows-requires c κs = search needs
 
+slice-aggregate-all-ascend : tie.Need-slice-aggregate-all-ascend
+slice-aggregate-all-ascend c = search needs
+
+all-ascend-requires : tie.Need-all-ascend-requires
+all-ascend-requires c κs = search needs
+
+returns : tie.Need-returns
+returns c = none-again _ _ _ (c .before .before .before .before .note-rows .ensures) (sym (c .before .all-ascend .ensures) ∙ c .if1 .taken)
+
 slice-aggregate-count-open : tie.Need-slice-aggregate-count-open
 slice-aggregate-count-open c = search needs
 
 count-open-requires : tie.Need-count-open-requires
 count-open-requires c κs = search needs
-
-returns : tie.Need-returns
-returns c = all-ascend _ _ _ _ (c .before .before .before .before .note-rows .ensures) (c .before .count-open .ensures) (c .if1 .taken)
 
 slice-aggregate-first-of-parts : tie.Need-slice-aggregate-first-of-parts
 slice-aggregate-first-of-parts c = search needs
@@ -37,9 +44,11 @@ first-again-spec =
     (tie.spec
     slice-aggregate-note-rows
     note-rows-requires
+    slice-aggregate-all-ascend
+    all-ascend-requires
+    returns
     slice-aggregate-count-open
     count-open-requires
-    returns
     slice-aggregate-first-of-parts
     add-first-of-parts
     first-of-parts-requires
