@@ -149,6 +149,9 @@ module _ (class id : ℕ → ℤ) where
   pub noted-start : (most : List ℤ) → Noted class id most 0
   noted-start most = record { each = λ j (l : j < 0) o. absurd (omega arith) }
 
+  pub noted-fewer : (most : List ℤ) (k m : ℕ) → m ≤ k → Noted class id most k → Noted class id most m
+  noted-fewer most k m h n = record { each = λ j (l : j < m) o. n .each j (omega arith) o }
+
   module _ (most : List ℤ) (k : ℕ) (n : Noted class id most k) where
     abbrev at : ℕ
     at = placeOf (class k)

@@ -54,29 +54,6 @@ earlier-is a b = go (eq-or-ne a 0) (eq-or-ne b 0) (lt-or-ge b a)
         let r = earlier-least a b n m h in
         record { one = inl (sym r); first = λ x. (λ (q : earlier a b ≡ 0). n (r ∙ q), omega arith); second = λ x. (λ (q : earlier a b ≡ 0). n (r ∙ q), omega arith) }
 
-pub earlier-none : (a : ℕ) → earlier a 0 ≡ a
-earlier-none a = go (eq-or-ne a 0)
-  where
-    go : (a ≡ 0) ⊎ (a ≡ 0 → ⊥) → earlier a 0 ≡ a
-    go (inl e) = sym (earlier-second a 0 e) ∙ sym e
-    go (inr n) = sym (earlier-first a 0 n refl)
-
--- ---- of three lines
-pub earlier-more : (a b c : ℕ) → earlier (earlier a b) c ≡ earlier a (earlier b c)
-earlier-more a b c = go (eq-or-ne a 0) (eq-or-ne b 0) (eq-or-ne c 0)
-  where
-    some : (a ≡ 0 → ⊥) → (b ≡ 0 → ⊥) → (c ≡ 0 → ⊥) → (b < a) ⊎ (a ≤ b) → (c < b) ⊎ (b ≤ c) → earlier (earlier a b) c ≡ earlier a (earlier b c)
-    some n m k (inl h) (inl g) = rw (← earlier-less a b n m h, ← earlier-less b c m k g) (earlier-less a c n k (omega arith))
-    some n m k (inl h) (inr g) = rw (← earlier-less a b n m h, ← earlier-least b c m k g) (earlier-less a b n m h)
-    some n m k (inr h) (inl g) = rw (← earlier-least a b n m h, ← earlier-less b c m k g)
-    some n m k (inr h) (inr g) = rw (← earlier-least a b n m h, ← earlier-least b c m k g, ← earlier-least a b n m h) (sym (earlier-least a c n k (omega arith)))
-
-    go : (a ≡ 0) ⊎ (a ≡ 0 → ⊥) → (b ≡ 0) ⊎ (b ≡ 0 → ⊥) → (c ≡ 0) ⊎ (c ≡ 0 → ⊥) → earlier (earlier a b) c ≡ earlier a (earlier b c)
-    go (inl e) f g = rw (← earlier-second a b e) (earlier-second a (earlier b c) e)
-    go (inr n) (inl e) g = rw (← earlier-first a b n e, ← earlier-second b c e)
-    go (inr n) (inr m) (inl e) = rw (← earlier-first b c m e) (sym (earlier-first (earlier a b) c (earlier-is a b .first n .0) e))
-    go (inr n) (inr m) (inr k) = some n m k (lt-or-ge b a) (lt-or-ge c b)
-
 -- ---- the row's line beside the word's
 module _ (file : List ℕ) (rows : List ℤ) (n k word : ℕ) (p : k ≡ firstAgain rows n) (q : word ≡ againLine (wordsOf file)) where
   pub duplicate-row : k < n → (line : ℕ) → line ≡ lineOf (rowsOf file) k → earlier line word ≡ duplicateLine file rows n

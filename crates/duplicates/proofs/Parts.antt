@@ -36,12 +36,12 @@ pub data Few {A : Type 0} : List A → Type 0 where
   single : (x : A) → Few (x ∷ [])
 
 -- a list that begins with a thing, behind i others
-record Front {A : Type 0} (d : A) (xs : List A) (i : ℕ) (x : A) (rest : List A) : Type 0 where
-  there : i < length xs
-  is : getD xs i d ≡ x
-  behind : rest ≡ drop (i + 1) xs
+pub record Front {A : Type 0} (d : A) (xs : List A) (i : ℕ) (x : A) (rest : List A) : Type 0 where
+  pub there : i < length xs
+  pub is : getD xs i d ≡ x
+  pub behind : rest ≡ drop (i + 1) xs
 
-front : {A : Type 0} (d : A) (xs : List A) (i : ℕ) (x : A) (rest : List A) → x ∷ rest ≡ drop i xs → Front d xs i x rest
+pub front : {A : Type 0} (d : A) (xs : List A) (i : ℕ) (x : A) (rest : List A) → x ∷ rest ≡ drop i xs → Front d xs i x rest
 front {A} d xs i x rest e = go (lt-or-ge i (length xs))
   where
     go : (i < length xs) ⊎ (length xs ≤ i) → Front d xs i x rest
@@ -56,6 +56,17 @@ pub ask-as : {A : Type 0} (key : A → ℕ) (asked stood held : A → Bool) (pla
 unfolding askFirst
 ask-as key asked stood held places [] e = refl
 ask-as key asked stood held places (y ∷ ys) e = rw (e y)
+
+-- nothing is left of a list behind i things
+pub no-rest : {A : Type 0} (d : A) (xs : List A) (i : ℕ) → [] ≡ drop i xs → length xs ≤ i
+no-rest {A} d xs i e = go (lt-or-ge i (length xs))
+  where
+    go : (i < length xs) ⊎ (length xs ≤ i) → length xs ≤ i
+    go (inl h) = absurd (no-end (e ∙ drop-cons xs i d h))
+      where
+        no-end : [] ≡ getD xs i d ∷ drop (suc i) xs → ⊥
+        no-end q = let z : _≡_ {A = ℕ} 0 1 = cc in omega arith
+    go (inr h) = h
 
 module _ {A : Type 0} (line : A → ℕ) (d : A) (same : A → A → Bool) where
   -- ---- a thing that is the same as one before it, and one that is not
@@ -114,14 +125,10 @@ module _ {A : Type 0} (line : A → ℕ) (d : A) (same : A → A → Bool) where
     module _ {pick : ℕ → List ℕ → Stepped → List A} {file : List ℕ} {xs : List A} {start : List ℕ} {st : State} {at n : ℕ} {places : List ℕ} (w : PartWalk pick file xs start st at n places) where
       -- nothing is left
       pub walk-none : [] ≡ gathered pick st n (linesOf (drop at file)) → FirstLine (AskedAgain line d same asked xs) 0
-      walk-none e = first-none (λ l a. go l a (lt-or-ge (w .i) (length xs)))
+      walk-none e = first-none (λ l a. go l a (no-rest d xs (w .i) (e ∙ w .rest)))
         where
-          go : (l : ℕ) → AskedAgain line d same asked xs l → (w .i < length xs) ⊎ (length xs ≤ w .i) → ⊥
-          go l a (inl h) = no-end (e ∙ w .rest ∙ drop-cons xs (w .i) d h)
-            where
-              no-end : [] ≡ getD xs (w .i) d ∷ drop (suc (w .i)) xs → ⊥
-              no-end q = let z : _≡_ {A = ℕ} 0 1 = cc in omega arith
-          go l a (inr h) = let g = a .again in let t = g .there in w .none (g .j) (omega arith) (a .here) (g .i) (g .before) (g .alike)
+          go : (l : ℕ) → AskedAgain line d same asked xs l → length xs ≤ w .i → ⊥
+          go l a h = let g = a .again in let t = g .there in w .none (g .j) (omega arith) (a .here) (g .i) (g .before) (g .alike)
 
       pub walk-end : length file ≤ at → FirstLine (AskedAgain line d same asked xs) 0
       walk-end h = walk-none (gathered-end file at h st n pick)

@@ -51,7 +51,7 @@ use Rattle.file.specs.Rows.{Placed, rowAt, rowsFrom, rowsOf, lineOf}
 use Rattle.duplicates.specs.declared.Once.{Once}
 use Rattle.duplicates.specs.declared.Once.the-variants.{Nothing as NoWord, Word as OnceWord}
 use Rattle.duplicates.specs.Words.{Word, onceOf, wordsIn, wordAt, wordsFrom, wordsOf}
-use Rattle.duplicates.specs.Inside.{wordLine}
+use Rattle.duplicates.specs.Inside.{wordLine, rowLine}
 
 -- ---- things with lines that rise, the first at line m or behind
 pub data Rising {A : Type 0} (line : A → ℕ) : ℕ → List A → Type 0 where
@@ -91,9 +91,6 @@ unfolding wordsOf
 words-rise file = words-from fresh 1 (linesOf file)
 
 -- ---- rows
-abbrev pub rowLine : Placed → ℕ
-rowLine r = r .line
-
 pub rows-low : {m : ℕ} {rs : List Placed} → Rising rowLine m rs → (k : ℕ) → k < length rs → m ≤ lineOf rs k
 unfolding lineOf
 rows-low no-more k h = absurd (omega arith)

@@ -2,20 +2,17 @@
 use Prim.Native.Nat.{ℕ, _+_, _-_, _≤_}
 use mathlib.Core.Bool.{true, false}
 use mathlib.Core.List.{List, [], _++_}
-use mathlib.Core.Path.{_≡_, refl, sym, ap, _∙_}
+use mathlib.Core.Path.{_≡_, sym, ap, _∙_}
 use native.Mathlib.Omega.{arith}
 use lib.ListN.{length, take, drop}
 use Rattle.text.specs.Lines.{linesOf}
 use Rattle.text.specs.declared.Line.{Line}
 use Rattle.text.proofs.Cut.{LineAt}
-use Rattle.places.specs.Places.{fresh}
 use Rattle.grammar.specs.Steps.{stepOf}
 use Rattle.places.specs.declared.State.{State}
 use Rattle.places.specs.declared.Stepped.{Stepped}
 use Rattle.file.specs.Whole.{isFault, gathered}
-use Rattle.file.proofs.Walking.{Within, within-start, within-turn, gathered-turn, gathered-stop, gathered-end}
-use Rattle.duplicates.specs.Words.{earlier}
-use Rattle.duplicates.proofs.Lines.{earlier-second, earlier-none, earlier-more}
+use Rattle.file.proofs.Walking.{gathered-turn, gathered-stop, gathered-end}
 
 -- ---- the loop that seeks one thing from a place on: what is left gives the answer
 pub record SeekWalk {A : Type 0} (pick : ℕ → List ℕ → Stepped → List A) (next : List A → ℕ) (file : List ℕ) (a : ℕ) (st : State) (at n : ℕ) : Type 0 where
@@ -36,37 +33,3 @@ module _ {A : Type 0} {pick : ℕ → List ℕ → Stepped → List A} {next : L
 
   pub seek-end : next [] ≡ 0 → length file ≤ at → 0 ≡ a
   seek-end z h = sym z ∙ ap next (gathered-end file at h st n pick) ∙ w .same
-
--- ---- the loop over all things: the first line so far, or that of what is left
-pub record AgainWalk {A : Type 0} (pick : ℕ → List ℕ → Stepped → List A) (again : List A → ℕ) (file : List ℕ) (a : ℕ) (st : State) (at n first : ℕ) : Type 0 where
-  pub within : Within file at n
-  pub same : earlier first (again (gathered pick st n (linesOf (drop at file)))) ≡ a
-
-pub again-start : {A : Type 0} {pick : ℕ → List ℕ → Stepped → List A} {again : List A → ℕ} (file : List ℕ) (a : ℕ) (st : State) → st ≡ fresh
-    → again (gathered pick fresh 1 (linesOf file)) ≡ a → AgainWalk pick again file a st 0 1 0
-again-start file a st e q = record { within = within-start file; same = rw e (sym (earlier-second 0 _ refl) ∙ q) }
-
-module _ {A : Type 0} {pick : ℕ → List ℕ → Stepped → List A} {again : List A → ℕ} {file : List ℕ} {a : ℕ} {st : State} {at n first : ℕ} (w : AgainWalk pick again file a st at n first) where
-  no-further : again [] ≡ 0 → [] ≡ gathered pick st n (linesOf (drop at file)) → first ≡ a
-  no-further z q = sym (earlier-none first) ∙ ap (earlier first) (sym z) ∙ ap (λ (xs : List A). earlier first (again xs)) q ∙ w .same
-
-  module _ (r : Line) (l : LineAt file at r) (s : Stepped) (p : s ≡ stepOf st n (take (r .stop - at) (drop at file))) where
-    pub again-fault : again [] ≡ 0 → isFault (s .found) ≡ true → first ≡ a
-    again-fault z e = no-further z (gathered-stop file at r l st n s p pick e)
-
-    pub again-turn : isFault (s .found) ≡ false → (next : ℕ)
-        → earlier next (again (gathered pick (s .next) (n + 1) (linesOf (drop (r .next) file))))
-        ≡ again (pick n (take (r .stop - at) (drop at file)) s ++ gathered pick (s .next) (n + 1) (linesOf (drop (r .next) file)))
-        → (first′ : ℕ) → first′ ≡ earlier first next → AgainWalk pick again file a (s .next) (r .next) (n + 1) first′
-    again-turn e next q first′ f =
-        record {
-          within = within-turn (w .within) l;
-          same =
-              rw f (earlier-more first next _)
-              ∙ ap (earlier first) q
-              ∙ ap (λ (xs : List A). earlier first (again xs)) (gathered-turn file at r l st n s p pick e)
-              ∙ w .same;
-        }
-
-  pub again-end : again [] ≡ 0 → length file ≤ at → first ≡ a
-  again-end z h = no-further z (gathered-end file at h st n pick)

@@ -5,6 +5,7 @@ use mathlib.Core.List.{List, [], _∷_}
 use mathlib.Core.Path.{_≡_}
 use lib.Dec.{eqb, ltb}
 use lib.ListN.{length, getD}
+use Rattle.file.specs.Rows.{Placed}
 use Rattle.sets.specs.Sets.{keptOf, placesAfter, unlessNew, isIn, mixed, mixedAll}
 use Rattle.text.specs.Words.{sameBytes}
 use Rattle.places.specs.declared.Lines.{Lines}
@@ -78,6 +79,10 @@ askFirst key asked stood places (x ∷ xs) = cond (asked x) (unlessNew (keptOf p
 unfoldable pub keepFirst : {A : Type 0} → (A → ℕ) → (A → Bool) → List ℕ → List A → List ℕ
 keepFirst key asked places [] = places
 keepFirst key asked places (x ∷ xs) = cond (asked x) (placesAfter places (key x)) places
+
+-- the line of a row
+abbrev pub rowLine : Placed → ℕ
+rowLine r = r .line
 
 -- ---- Words: the line, when two are the same, the number that a word is kept by, and whether a word stood before
 abbrev pub wordLine : Word → ℕ

@@ -14,12 +14,13 @@ use Rattle.file.specs.Rows.{Placed, rowsOf, lineOf}
 use Rattle.tables.specs.Tables.{numberAt, classAt, isRowOf}
 use Rattle.duplicates.specs.Words.{wordsOf, earlier, againLine}
 use Rattle.duplicates.specs.Again.{FirstLine, WordAgain}
-use Rattle.duplicates.proofs.Rising.{rowLine, rows-rise}
-use Rattle.duplicates.specs.Inside.{MetAgain}
+use Rattle.duplicates.proofs.Rising.{rows-rise}
+use Rattle.duplicates.specs.Inside.{MetAgain, rowLine}
 use Rattle.duplicates.proofs.First.{first-either, first-as, nextSuch, againSuch, again-first}
 use Rattle.duplicates.proofs.Again.{again-is}
 use Rattle.file_tables.specs.Tables.{cellsOf}
 use Rattle.repeats.specs.Repeats.{isRowLike, nextRow, rowsAgain, duplicateOf}
+use Rattle.repeats.specs.Inside.{noRow, sameRow}
 use Rattle.repeats.specs.Once.{RowTwice, Twice, by-row, by-word}
 
 -- ---- the earlier of the rows' line and the words'
@@ -29,29 +30,23 @@ duplicate-first file row word p q = rw (p, q)
 
 -- ---- two rows are alike where their classes and IDs are the same
 module _ (class id : ℤ) (r : Placed) where
-  like-is : isRowLike class id r ≡ true → (classAt (r .cells) 0 ≡ class) × (numberAt (r .cells) 0 1 ≡ id)
+  pub like-is : isRowLike class id r ≡ true → (classAt (r .cells) 0 ≡ class) × (numberAt (r .cells) 0 1 ≡ id)
   unfolding isRowLike isRowOf
   like-is e =
       let b = and-both (sameZ (classAt (r .cells) 0) class) (sameZ (numberAt (r .cells) 0 1) id) e in
       (sameZ-true (classAt (r .cells) 0) class (b .0), sameZ-true (numberAt (r .cells) 0 1) id (b .1))
 
-  is-like : classAt (r .cells) 0 ≡ class → numberAt (r .cells) 0 1 ≡ id → isRowLike class id r ≡ true
+  pub is-like : classAt (r .cells) 0 ≡ class → numberAt (r .cells) 0 1 ≡ id → isRowLike class id r ≡ true
   unfolding isRowLike isRowOf
   is-like p q = rw (p, q, sameZ-refl class, sameZ-refl id)
 
 -- ---- rows that are met again, as the laws for all things say it
-abbrev sameRow : Placed → Placed → Bool
-sameRow r s = isRowLike (classAt (r .cells) 0) (numberAt (r .cells) 0 1) s
-
-abbrev noRow : Placed
-noRow = record { line = 0; cells = [] }
-
-next-such : (class id : ℤ) (rs : List Placed) → nextSuch rowLine (isRowLike class id) rs ≡ nextRow class id rs
+pub next-such : (class id : ℤ) (rs : List Placed) → nextSuch rowLine (isRowLike class id) rs ≡ nextRow class id rs
 unfolding nextSuch nextRow
 next-such class id [] = refl
 next-such class id (r ∷ rs) = rw (next-such class id rs)
 
-again-such : (rs : List Placed) → againSuch rowLine sameRow rs ≡ rowsAgain rs
+pub again-such : (rs : List Placed) → againSuch rowLine sameRow rs ≡ rowsAgain rs
 unfolding againSuch rowsAgain
 again-such [] = refl
 again-such (r ∷ rs) = rw (next-such (classAt (r .cells) 0) (numberAt (r .cells) 0 1) rs, again-such rs)

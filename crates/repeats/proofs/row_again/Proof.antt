@@ -1,101 +1,55 @@
--- `repeats::row_again` meets its contract. The loop's invariant: the first line so far, or that of the rows that are left (`AgainWalk`). Assumes nothing.
-use Prim.Native.Nat.{_-_}
-use mathlib.Core.Path.{refl, sym, _∙_}
-use native.Mathlib.Omega.{arith}
+-- `repeats::row_again` meets its contract. Assumes nothing.
+use Rattle.repeats.proofs.RowParts.{none-twice}
+use mathlib.Core.Path.{sym, _∙_}
 use borrow.Author.Needs.{needs}
-use denote.Ref.{now}
-use lib.ListN.{length}
-use Rattle.text.proofs.Cut.{LineAt, line-at}
-use Rattle.file.specs.Rows.{rowAt, rowsOf}
-use Rattle.duplicates.proofs.Seeking.{AgainWalk, again-start, again-fault, again-turn, again-end}
-use Rattle.repeats.specs.Repeats.{rowsAgain}
-use Rattle.repeats.proofs.Having.{again-front, no-again}
 use Rattle.repeats.proofs.row_again.Statement.{statement}
 use Rattle.repeats.proofs.row_again.Tie as tie
 
-abbrev Inv-loop : tie.InvT-loop
-Inv-loop file st₀ at₀ n₀ first₀ st at n first = AgainWalk rowAt rowsAgain file (rowsAgain (rowsOf file)) st at n first
+slice-aggregate-note-rows : tie.Need-slice-aggregate-note-rows
+slice-aggregate-note-rows c = search needs
 
-abbrev μ-loop : tie.MeasureT-loop
-μ-loop file st₀ at₀ n₀ first₀ st at n first = length file - at
+note-rows-requires : tie.Need-note-rows-requires
+note-rows-requires c κs = search needs
 
--- the line that starts here
-here : (c : tie.After-next-line Inv-loop μ-loop) → LineAt (now (c .before .before .before .before .before .args .file)) (c .before .before .loop .at) (c .next-line .result)
-here c = line-at _ _ _ (c .next-line .ensures) (omega arith)
+slice-aggregate-all-ascend : tie.Need-slice-aggregate-all-ascend
+slice-aggregate-all-ascend c = search needs
 
-start-requires : tie.Need-start-requires Inv-loop μ-loop
-start-requires c κs = search needs
+all-ascend-requires : tie.Need-all-ascend-requires
+all-ascend-requires c κs = search needs
 
-loop-holds : tie.Need-loop-holds Inv-loop μ-loop
-unfolding rowsOf
-loop-holds c = again-start _ _ _ (c .start .ensures) refl
+returns : tie.Need-returns
+returns c = none-twice _ _ (c .before .before .before .before .note-rows .ensures) (sym (c .before .all-ascend .ensures) ∙ c .if1 .taken)
 
-next-line-requires : tie.Need-next-line-requires Inv-loop μ-loop
-next-line-requires c κs = search needs
+slice-aggregate-count-open : tie.Need-slice-aggregate-count-open
+slice-aggregate-count-open c = search needs
 
-sub-step : tie.Need-sub-step Inv-loop μ-loop
-sub-step c = here c .ordered
+count-open-requires : tie.Need-count-open-requires
+count-open-requires c κs = search needs
 
-part-step-start : tie.Need-part-step-start Inv-loop μ-loop
-part-step-start c = here c .ordered
+slice-aggregate-first-of-parts : tie.Need-slice-aggregate-first-of-parts
+slice-aggregate-first-of-parts c = search needs
 
-part-step-end : tie.Need-part-step-end Inv-loop μ-loop
-part-step-end c = here c .within
+add-first-of-parts : tie.Need-add-first-of-parts
+add-first-of-parts c = search needs
 
-step-requires : tie.Need-step-requires Inv-loop μ-loop
-step-requires c κs = search needs
+first-of-parts-requires : tie.Need-first-of-parts-requires
+first-of-parts-requires c κs = search needs
 
-is-fault-requires : tie.Need-is-fault-requires Inv-loop μ-loop
-is-fault-requires c κs = search needs
-
-returns : tie.Need-returns Inv-loop μ-loop
-returns c = let s = c .before .before in
-    let l = s .before .before in
-    again-fault (l .before .before .loop .inv) _ (here l) _ (s .step .ensures) no-again (sym (c .before .is-fault .ensures) ∙ c .if1 .taken)
-
-add-n : tie.Need-add-n Inv-loop μ-loop
-add-n c = let l = c .before .before .before .before in
-    let w = l .before .before .loop .inv .within in
-    omega (arith, w .number, here l .further, here l .inside, l .before .before .before .before .before .good .0 .0)
-
-met-again-requires : tie.Need-met-again-requires Inv-loop μ-loop
-met-again-requires c κs = let l = c .before .before .before .before in
-    let w = l .before .before .loop .inv .within in
-    omega (arith, w .number, here l .further)
-
-earlier-requires : tie.Need-earlier-requires Inv-loop μ-loop
-earlier-requires c κs = search needs
-
-loop-less : tie.Need-loop-less Inv-loop μ-loop
-loop-less c = let l = c .before .before .before .before .before .before .before in omega (arith, here l .further, here l .inside)
-
-loop-again : tie.Need-loop-again Inv-loop μ-loop
-loop-again c = let e = c .before .before .before in
-    let s = e .before .before in
-    let l = s .before .before in
-    again-turn (l .before .before .loop .inv) _ (here l) _ (s .step .ensures) (sym (e .before .is-fault .ensures) ∙ e .if1 .left) _ (again-front _ _ _ _ _ (c .before .before .met-again .ensures)) _ (c .before .earlier .ensures)
-
-returns-2 : tie.Need-returns-2 Inv-loop μ-loop
-returns-2 c = again-end (c .before .loop .inv) no-again (c .loop-test .left)
+returns-2 : tie.Need-returns-2
+returns-2 c = search needs
 
 pub row-again-spec : {M : Type 1} → statement M
 row-again-spec =
     tie.close
     (tie.spec
-    Inv-loop
-    μ-loop
-    start-requires
-    loop-holds
-    next-line-requires
-    sub-step
-    part-step-start
-    part-step-end
-    step-requires
-    is-fault-requires
+    slice-aggregate-note-rows
+    note-rows-requires
+    slice-aggregate-all-ascend
+    all-ascend-requires
     returns
-    add-n
-    met-again-requires
-    earlier-requires
-    loop-less
-    loop-again
+    slice-aggregate-count-open
+    count-open-requires
+    slice-aggregate-first-of-parts
+    add-first-of-parts
+    first-of-parts-requires
     returns-2)
