@@ -47,7 +47,7 @@ module _ (file site : List ℕ) (b : Bool) (p : b ≡ isBig file site) where
       faulty-again j again k = rw (← p, h, ← q, i, ← t, j, k)
 
 -- ---- where there is no fault, no line is at fault
-no-line : (file : List ℕ) (s : Scanned) → s ≡ scannedOf file → isAtFault s ≡ false → soundOf file ≡ true
+pub no-line : (file : List ℕ) (s : Scanned) → s ≡ scannedOf file → isAtFault s ≡ false → soundOf file ≡ true
 unfolding isAtFault
 no-line file (File e n m defined) p q = sound-scanned file p
 no-line file (ScannedFault fault line) p q = absurd (true≢false q)

@@ -1,10 +1,11 @@
 // What is met again in a file, from its text alone: an ID or type among its rows, a name among its extensions, a key among its definitions.
-ghost use mathlib.Core.Bool.{_&&_};
+ghost use mathlib.Core.Bool.{true, _&&_};
 ghost use mathlib.Core.Path.{_≡_};
 ghost use Prim.Native.Nat.{_+_, _≤_};
 ghost use lib.Dec.{ltb};
 ghost use lib.ListN.{length, drop};
 ghost use Rattle.text.specs.Lines.{linesOf};
+ghost use Rattle.passing.specs.Sound.{soundOf};
 ghost use Rattle.file.specs.Rows.{rowsFrom, rowsOf};
 ghost use Rattle.repeats.specs.Repeats.{nextRow, rowsAgain, duplicateOf};
 ghost use Rattle.repeats.specs.Inside.{givesRow, rowGiven, noRow, sameRow, rowNumber, rowOpen, stoodBefore, notedBy, classNo, idNo};
@@ -255,6 +256,7 @@ pub fn row_again(file: &[u8]) -> usize
 
 // The first line at which an ID, a type, a name or a key is met again in its class; 0 if there is none.
 pub fn duplicate_line(file: &[u8]) -> usize
+    requires { ⌜ soundOf (now file) ≡ true ⌝ }
     ensures { λ r. ⌜ r ≡ duplicateOf (now (file .entry)) ⌝ }
 {
     let row = row_again(file);

@@ -1,5 +1,6 @@
 -- `lookups::is_faulty` meets its contract. Assumes nothing.
-use Rattle.lookups.proofs.Looking.{faulty-big, faulty-line, faulty-site, faulty-again}
+use mathlib.Core.Path.{refl, sym, _∙_}
+use Rattle.lookups.proofs.Looking.{no-line, faulty-big, faulty-line, faulty-site, faulty-again}
 use borrow.Author.Needs.{needs}
 use Rattle.lookups.proofs.is_faulty.Statement.{statement}
 use Rattle.lookups.proofs.is_faulty.Tie as tie
@@ -26,7 +27,8 @@ returns-3 c = let s = c .before in
     faulty-site _ _ _ (f .before .before .is-big .ensures) (f .before .if1 .left) _ (f .has-fault .ensures) (s .before .if2 .left) _ (s .site-fault .ensures) (c .if3 .taken)
 
 duplicate-line-requires : tie.Need-duplicate-line-requires
-duplicate-line-requires c κs = search needs
+duplicate-line-requires c κs = let f = c .before .before .before in
+    no-line _ _ refl (sym (f .has-fault .ensures) ∙ c .before .before .if2 .left)
 
 returns-4 : tie.Need-returns-4
 returns-4 c = let s = c .before .before in
