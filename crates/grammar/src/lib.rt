@@ -6,6 +6,8 @@ ghost use Rattle.grammar.specs.Definitions.{valueOf, valuePart};
 ghost use Rattle.grammar.specs.Steps.{gaveOf, definedOf, blankStep, definitionStep, rowStep, labelStep, listedOf, extensionStep, listedStep, extensionsStep, headStep, countedOf, countStep, valueRow, linesStep, plainStep, stepOf};
 ghost use Rattle.shape.specs.Stored.{itemOf};
 ghost use Rattle.fields.specs.Fields.{fieldsOf};
+ghost use Rattle.text.specs.Marks.{breaksLine, markOf};
+ghost use mathlib.Core.Bool.{false};
 ghost use Prim.Native.Nat.{_≤_};
 ghost use lib.ListN.{replicate};
 use columns::Form;
@@ -231,11 +233,13 @@ fn count_step(st: State, id: i64, n: usize, line: &[u8]) -> Stepped
     }
 }
 
-// A line among the values of a shape.
+// A plain line among the values of a shape.
 fn value_step(st: State, line: &[u8]) -> Stepped
+    requires { ⌜ breaksLine (now line) ≡ false ⌝ }
+    requires { ⌜ markOf (now line) ≡ Mark.Plain ⌝ }
     ensures { λ r. ⌜ r ≡ valueRow st (itemOf (now (line .entry))) ⌝ }
 {
-    match shape::line_item(line) {
+    match shape::plain_item(line) {
         Item::Value(_) => places::went(st),
         Item::Skipped => places::went(st),
         Item::Bad => places::refused(st, Fault::Field),
@@ -256,6 +260,8 @@ fn lines_step(st: State, n: usize, lines: Lines, line: &[u8]) -> Stepped
 
 // A line that is no comment, not blank and no section line.
 fn plain_step(st: State, n: usize, line: &[u8]) -> Stepped
+    requires { ⌜ breaksLine (now line) ≡ false ⌝ }
+    requires { ⌜ markOf (now line) ≡ Mark.Plain ⌝ }
     ensures { λ r. ⌜ r ≡ plainStep st n (now (line .entry)) (st .place) ⌝ }
 {
     let place = st.place;

@@ -41,7 +41,8 @@ enum-told-4 : tie.Need-enum-told-4
 enum-told-4 c = search needs
 
 plain-step-requires : tie.Need-plain-step-requires
-plain-step-requires c κs = search needs
+plain-step-requires c κs = let m = c .before .before in
+    (sym (m .before .before .breaks-line .ensures) ∙ m .before .if1 .left, sym (m .mark-of .ensures) ∙ c .enum-told4 .given .1)
 
 returns-2 : tie.Need-returns-2
 unfolding markedStep
