@@ -1,10 +1,9 @@
 -- Rows of open classes, asked part by part whether they repeat an ID: the first that does in any part is the first that does. Assumes nothing.
-use Prim.Native.Nat.{ℕ, zero, suc, _+_, _-_, _%_, _≤_, _<_}
-use mathlib.Core.Bool.{Bool, true, false, cond, _&&_, true≢false}
+use Prim.Native.Nat.{ℕ, _+_, _-_, _%_, _≤_, _<_}
+use mathlib.Core.Bool.{Bool, true, false, true≢false}
 use mathlib.Core.List.{List}
 use mathlib.Core.Logic.{_⊎_, inl, inr, ⊎-elim}
 use mathlib.Core.Path.{_≡_, refl, sym, _∙_}
-use native.Mathlib.Numerals.{add-one}
 use native.Mathlib.Omega.{arith}
 use borrow.Author.Tests.{le-ltb}
 use lib.IntN.{ℤ}
@@ -12,7 +11,7 @@ use lib.ListN.{length}
 use Rattle.signed.specs.Signed.{sameZ}
 use Rattle.signed.proofs.Sign.{sameZ-true}
 use Rattle.text.proofs.Cases.{lt-or-ge, and-both, true-or-false}
-use Rattle.sets.specs.Sets.{keptOf, placesAfter, AllMet, isIn, unlessNew}
+use Rattle.sets.specs.Sets.{keptOf, AllMet, isIn, unlessNew}
 use Rattle.sets.specs.declared.Kept.{Kept}
 use Rattle.sets.specs.declared.Kept.the-variants.{New, Old, Full}
 use Rattle.sets.proofs.Passing.{all-start, new-unlike, in-own, part-low}

@@ -1,8 +1,8 @@
 -- Things that lines give, kept part by part: the first line at which one is met again, whatever they are. Assumes nothing.
 use Prim.Native.Nat.{ℕ, suc, _+_, _-_, _%_, _≤_, _<_}
-use mathlib.Core.Bool.{Bool, true, false, cond, _&&_, true≢false}
+use mathlib.Core.Bool.{Bool, true, false, cond, true≢false}
 use mathlib.Core.List.{List, [], _∷_, _++_}
-use mathlib.Core.Logic.{_⊎_, inl, inr, ⊎-elim}
+use mathlib.Core.Logic.{_⊎_, inl, inr}
 use mathlib.Core.Path.{_≡_, refl, sym, ap, _∙_}
 use native.Mathlib.Numerals.{add-one}
 use native.Mathlib.Omega.{arith}
@@ -12,7 +12,7 @@ use lib.ListN.{length, getD, take, drop, drop-of-length-le}
 use lib.Seq.{drop-cons}
 use Rattle.text.specs.Lines.{linesOf}
 use Rattle.text.specs.declared.Line.{Line}
-use Rattle.text.proofs.Cases.{lt-or-ge, eq-or-ne, and-both, true-or-false}
+use Rattle.text.proofs.Cases.{lt-or-ge, eq-or-ne, and-both}
 use Rattle.text.proofs.Cut.{LineAt}
 use Rattle.sets.specs.Sets.{keptOf, placesAfter, unlessNew, AllMet, isIn}
 use Rattle.sets.specs.declared.Kept.{Kept}

@@ -1,7 +1,7 @@
 -- Words that lines name, kept part by part. Assumes nothing.
 use Prim.Native.Nat.{ℕ, _+_, _-_, _≤_}
-use mathlib.Core.Bool.{Bool, true, false, cond}
-use mathlib.Core.List.{List, [], _∷_}
+use mathlib.Core.Bool.{Bool, true, false}
+use mathlib.Core.List.{List, _∷_}
 use mathlib.Core.Path.{_≡_, refl, sym, ap, ap₂, _∙_}
 use native.Mathlib.Omega.{arith}
 use lib.Dec.{ltb}
@@ -20,7 +20,7 @@ use Rattle.duplicates.specs.declared.Once.{Once}
 use Rattle.duplicates.specs.declared.Once.the-variants.{Nothing, Word as OnceWord}
 use Rattle.duplicates.specs.Words.{Word, onceOf, wordOf, wordsIn, wordAt, wordsFrom, wordsOf, nextLine, againLine}
 use Rattle.duplicates.specs.Again.{FirstLine}
-use Rattle.duplicates.specs.Inside.{MetAgain, AskedAgain, inPart, askFirst, keepFirst, wordLine, noWord, sameWord, numberOf, wordNumber, anyWord, stoodBefore}
+use Rattle.duplicates.specs.Inside.{AskedAgain, inPart, askFirst, keepFirst, wordLine, noWord, sameWord, numberOf, wordNumber, anyWord, stoodBefore}
 use Rattle.duplicates.proofs.Rising.{words-rise}
 use Rattle.duplicates.proofs.First.{nextSuch, first-unique, again-first}
 use Rattle.duplicates.proofs.Again.{same-is, is-same, next-such, again-such}

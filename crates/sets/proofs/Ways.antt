@@ -10,8 +10,7 @@ use borrow.Author.Tests.{eq-eqb, ne-eqb}
 use lib.ListN.{length, getD, set, length-set}
 use lib.Seq.{getD-set-same, getD-set-other}
 use Rattle.text.proofs.Cases.{eq-or-ne}
-use Rattle.sets.specs.Sets.{wayPlace, cell, waySteps, wayFrom, wayOf, Held}
-use Rattle.sets.specs.declared.Way.{Way}
+use Rattle.sets.specs.Sets.{wayPlace, cell, waySteps, wayFrom, Held}
 use Rattle.sets.specs.declared.Way.the-variants.{Held as WayHeld, Free, Blocked}
 
 -- ---- the answers of a way are three

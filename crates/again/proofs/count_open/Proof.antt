@@ -1,7 +1,6 @@
 -- `again::count_open` meets its contract. The loop counts no more than it passes. Assumes nothing.
 use borrow.Author.Needs.{needs}
 use native.Mathlib.Omega.{arith}
-use mathlib.Core.Path.{_≡_, _∙_}
 use Prim.Native.Nat.{_-_, _≤_}
 use Rattle.again.proofs.count_open.Statement.{statement}
 use Rattle.again.proofs.count_open.Tie as tie

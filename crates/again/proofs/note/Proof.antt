@@ -2,7 +2,6 @@
 use Rattle.again.proofs.Noting.{note-beyond, note-there}
 use Rattle.again.specs.Noting.{placeOf, noteAfter}
 use Rattle.signed.proofs.Machine.{rd-at, rd-is}
-use lib.IntN.{ℤ, pos}
 use mathlib.Core.Path.{_≡_, ap, ap₂, _∙_}
 use borrow.Author.Needs.{needs}
 use Rattle.again.proofs.note.Statement.{statement}

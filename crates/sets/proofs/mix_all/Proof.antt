@@ -5,7 +5,7 @@ use Rattle.sets.specs.Sets.{mixedAll}
 use borrow.Author.Needs.{needs}
 use lib.ListN.{length, drop}
 use native.Mathlib.Omega.{arith}
-use mathlib.Core.Path.{_≡_, refl, sym, ap, _∙_}
+use mathlib.Core.Path.{_≡_, refl, sym, _∙_}
 use Prim.Native.Nat.{_-_, _≤_}
 use Rattle.sets.proofs.mix_all.Statement.{statement}
 use Rattle.sets.proofs.mix_all.Tie as tie
