@@ -2,7 +2,6 @@
 pub mod Lines
 pub mod Seeking
 pub mod Naming
-pub mod Left
 pub mod Beyond
 pub mod Rising
 pub mod First

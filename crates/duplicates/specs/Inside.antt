@@ -8,11 +8,8 @@ use lib.ListN.{length, getD}
 use Rattle.file.specs.Rows.{Placed}
 use Rattle.sets.specs.Sets.{keptOf, placesAfter, unlessNew, isIn, mixed, mixedAll}
 use Rattle.text.specs.Words.{sameBytes}
-use Rattle.places.specs.declared.Lines.{Lines}
-use Rattle.places.specs.declared.Lines.the-variants.{None, Definitions, Rows, Shapes}
-use Rattle.places.specs.declared.Place.{Place}
-use Rattle.places.specs.declared.Place.the-variants.{Start, Version, Section, Extensions, Head, Values, Signature}
 use Rattle.places.specs.declared.State.{State}
+use Rattle.passing.specs.Left.{leftOf}
 use Rattle.duplicates.specs.declared.Sort.{Sort}
 use Rattle.duplicates.specs.declared.Sort.the-variants.{Key, Name}
 use Rattle.duplicates.specs.declared.Once.{Once}
@@ -29,25 +26,9 @@ abbrev pub sectionWith : Sort → ℕ
 sectionWith Key = 2
 sectionWith Name = 8
 
--- which of the two a place is in; 0 if in neither
-abbrev pub linesSection : Lines → ℕ
-linesSection None = 0
-linesSection Definitions = 2
-linesSection (Rows form) = 0
-linesSection Shapes = 0
-
-abbrev pub wordSection : Place → ℕ
-wordSection Start = 0
-wordSection (Version due) = 0
-wordSection (Section lines) = linesSection lines
-wordSection (Extensions listed) = 8
-wordSection (Head id n) = 0
-wordSection Values = 0
-wordSection Signature = 0
-
 -- was the section of such words met, and left?
-unfoldable pub isLeft : State → Sort → Bool
-isLeft st sort = cond (eqb (wordSection (st .place)) (sectionWith sort)) false (getD (st .seen) (sectionWith sort) false)
+abbrev pub isLeft : State → Sort → Bool
+isLeft st sort = leftOf st (sectionWith sort)
 
 -- were both?
 abbrev pub allLeft : State → Bool

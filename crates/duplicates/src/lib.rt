@@ -8,11 +8,9 @@ ghost use Rattle.text.specs.Lines.{linesOf};
 ghost use Rattle.passing.specs.Sound.{soundOf};
 ghost use Rattle.sets.specs.Sets.{keptOf, placesAfter, unlessNew};
 ghost use Rattle.duplicates.specs.Words.{rowNames, onceOf, wordOf, sortNumber, wordAt, wordsFrom, wordsOf, nextLine, earlier, againLine, duplicateLine};
-ghost use Rattle.duplicates.specs.Inside.{namesWord, sectionWith, linesSection, wordSection, isLeft, allLeft, AskedAgain, inPart, askFirst, keepFirst, wordLine, noWord, sameWord, numberOf, wordNumber, anyWord, stoodBefore};
+ghost use Rattle.duplicates.specs.Inside.{namesWord, sectionWith, isLeft, allLeft, AskedAgain, inPart, askFirst, keepFirst, wordLine, noWord, sameWord, numberOf, wordNumber, anyWord, stoodBefore};
 ghost use Rattle.duplicates.specs.Again.{FirstLine};
 use places::Found;
-use places::Lines;
-use places::Place;
 use places::State;
 use places::Stepped;
 use sets::Kept;
@@ -98,40 +96,13 @@ fn section_with(sort: Sort) -> usize
     }
 }
 
-// The section of words that has these lines; 0 if none has.
-fn lines_section(lines: Lines) -> usize
-    ensures { λ r. ⌜ r ≡ linesSection lines ⌝ }
-{
-    match lines {
-        Lines::None => 0,
-        Lines::Definitions => 2,
-        Lines::Rows(_) => 0,
-        Lines::Shapes => 0,
-    }
-}
-
-// The section of words that has this place; 0 if none has.
-fn word_section(place: Place) -> usize
-    ensures { λ r. ⌜ r ≡ wordSection place ⌝ }
-{
-    match place {
-        Place::Start => 0,
-        Place::Version(_) => 0,
-        Place::Section(lines) => lines_section(lines),
-        Place::Extensions(_) => 8,
-        Place::Head(_, _) => 0,
-        Place::Values => 0,
-        Place::Signature => 0,
-    }
-}
-
 // Was the section in which words of this sort stand met and left? A section is met once, so no such word is further on.
 fn is_left(st: State, sort: Sort) -> bool
     ensures { λ r. ⌜ r ≡ isLeft st sort ⌝ }
 {
     let own = section_with(sort);
     let place = st.place;
-    if word_section(place) == own {
+    if passing::word_section(place) == own {
         return false;
     }
     st.seen[own]

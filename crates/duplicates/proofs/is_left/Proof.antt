@@ -1,6 +1,6 @@
 -- `duplicates::is_left` meets its contract. Assumes nothing.
 use borrow.Author.Needs.{needs}
-use Rattle.duplicates.proofs.Beyond.{section-there, left-not, left-if-met}
+use Rattle.duplicates.proofs.Beyond.{section-there, sort-not, sort-if-met}
 use Rattle.duplicates.proofs.is_left.Statement.{statement}
 use Rattle.duplicates.proofs.is_left.Tie as tie
 
@@ -11,13 +11,13 @@ word-section-requires : tie.Need-word-section-requires
 word-section-requires c κs = search needs
 
 returns : tie.Need-returns
-returns c = left-not _ _ _ _ (c .before .before .section-with .ensures) (c .before .word-section .ensures) (c .if1 .taken)
+returns c = sort-not _ (c .before .before .before .args .sort) _ _ (c .before .before .section-with .ensures) (c .before .word-section .ensures) (c .if1 .taken)
 
 element-copy-out-result : tie.Need-element-copy-out-result
 element-copy-out-result c = rw (c .before .before .section-with .ensures) (section-there (c .before .before .before .args .sort) .1)
 
 returns-2 : tie.Need-returns-2
-returns-2 c = left-if-met _ _ _ _ (c .before .before .before .section-with .ensures) (c .before .before .word-section .ensures) (c .before .if1 .left)
+returns-2 c = sort-if-met _ (c .before .before .before .before .args .sort) _ _ (c .before .before .before .section-with .ensures) (c .before .before .word-section .ensures) (c .before .if1 .left)
 
 pub is-left-spec : {M : Type 1} → statement M
 is-left-spec =
