@@ -117,16 +117,20 @@ fn gallop(rows: &[i64], k: usize, n: usize, run: i64, id: i64) -> usize
     left
 }
 
-// Where an ID stands if none is left out from row k on; row k if that is not before row n.
+// How far two numbers are apart.
+fn apart(a: u64, b: u64) -> u64 {
+    if a < b {
+        return b - a;
+    }
+    a - b
+}
+
+// Where an ID stands if IDs ascend or descend from row k on and none is left out; row k if that is not before row n.
 fn without_gaps(rows: &[i64], k: usize, n: usize, id: i64) -> usize
     requires { ⌜ k < n ⌝ }
 {
     let first = signed::size(tables::number(rows, k, 1));
-    let sought = signed::size(id);
-    if sought < first {
-        return k;
-    }
-    let far = (sought - first) as usize;
+    let far = apart(first, signed::size(id)) as usize;
     if far < n - k {
         return k + far;
     }
