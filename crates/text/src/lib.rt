@@ -1,8 +1,7 @@
 // Texts: their lines, what kind of line one is, whether it may stand in a file, and whether two texts are the same.
 // Everything is a place in a slice: nothing is copied.
 ghost use mathlib.Core.Path.{_≡_};
-ghost use lib.ListN.{drop};
-ghost use Rattle.text.specs.Lines.{startsLF, lineAt};
+ghost use Rattle.text.specs.Lines.{lineAt};
 ghost use Rattle.text.specs.Marks.{isBlank, markOf, isControl, anyControl, breaksLine};
 ghost use Rattle.text.specs.Blanks.{skipped};
 ghost use Rattle.text.specs.Words.{sameBytes};
@@ -21,36 +20,25 @@ pub enum Mark {
     Plain,
 }
 
-// Does an LF stand at i?
-fn line_feed(text: &[u8], i: usize) -> bool
-    ensures { λ r. ⌜ r ≡ startsLF (drop i (now (text .entry))) ⌝ }
-{
-    if i < text.len() {
-        return text[i] == 10;
-    }
-    false
-}
-
-// The line that starts at `at`.
+// The line that starts at `at`: up to the first LF. A CR just before it belongs to the end.
 pub fn next_line(text: &[u8], at: usize) -> Line
     ensures { λ r. ⌜ r ≡ lineAt (now (text .entry)) at ⌝ }
 {
     let mut i = at;
     while i < text.len() {
-        let b = text[i];
-        if b == 10 {
+        if text[i] == 10 {
+            if at < i {
+                if text[i - 1] == 13 {
+                    return Line {
+                        stop: i - 1,
+                        next: i + 1,
+                    };
+                }
+            }
             return Line {
                 stop: i,
                 next: i + 1,
             };
-        }
-        if b == 13 {
-            if line_feed(text, i + 1) {
-                return Line {
-                    stop: i,
-                    next: i + 2,
-                };
-            }
         }
         i += 1;
     }

@@ -1,56 +1,51 @@
--- `text::next_line` meets its contract. The loop's invariant: the line from i on ends where that from `at` on does. Assumes nothing.
-use Prim.Native.Nat.{_+_, _-_}
-use mathlib.Core.Bool.{false, _&&_}
-use mathlib.Core.Logic.{⊎-elim}
-use mathlib.Core.Path.{_≡_, refl, sym, _∙_}
+-- `text::next_line` meets its contract. The loop's invariant: no LF stands between `at` and i. Assumes nothing.
+use Prim.Native.Nat.{_-_}
+use mathlib.Core.Logic.{inl, ⊎-elim}
+use mathlib.Core.Path.{refl}
 use native.Mathlib.Omega.{arith}
-use denote.Ref.{now}
-use borrow.Author.Tests.{eq-eqb, ne-eqb}
 use borrow.Author.Needs.{needs}
-use lib.Dec.{eqb}
-use lib.ListN.{length, getD, drop}
-use Rattle.text.specs.Lines.{startsLF, lineAt}
-use Rattle.text.proofs.Places.{line-none, line-feed, line-return, line-more, feed-inside}
+use lib.ListN.{length}
+use Rattle.text.proofs.Places.{Sought, sought-end, sought-turn, feed-first, feed-behind, feed-return}
 use Rattle.text.proofs.next_line.Statement.{statement}
 use Rattle.text.proofs.next_line.Tie as tie
 
 abbrev Inv-loop : tie.InvT-loop
-Inv-loop text at i₀ i = lineAt text i ≡ lineAt text at
+Inv-loop text at i₀ i = Sought text at i
 
 abbrev μ-loop : tie.MeasureT-loop
 μ-loop text at i₀ i = length text - i
 
 loop-holds : tie.Need-loop-holds Inv-loop μ-loop
-loop-holds c = refl
+loop-holds c = inl refl
 
-shared-slice-read-b : tie.Need-shared-slice-read-b Inv-loop μ-loop
-shared-slice-read-b c = search needs
+shared-slice-read-if1 : tie.Need-shared-slice-read-if1 Inv-loop μ-loop
+shared-slice-read-if1 c = search needs
 
-add-t9 : tie.Need-add-t9 Inv-loop μ-loop
-add-t9 c = search needs
+sub-if3 : tie.Need-sub-if3 Inv-loop μ-loop
+sub-if3 c = search needs
+
+shared-slice-read-if3 : tie.Need-shared-slice-read-if3 Inv-loop μ-loop
+shared-slice-read-if3 c = search needs
+
+sub-t13 : tie.Need-sub-t13 Inv-loop μ-loop
+sub-t13 c = search needs
+
+add-t14 : tie.Need-add-t14 Inv-loop μ-loop
+add-t14 c = search needs
 
 returns : tie.Need-returns Inv-loop μ-loop
 returns c =
-    let l = c .before .before .before in
-    line-feed (now (l .before .before .args .text)) (l .loop .i) (omega arith) (c .if1 .taken) ∙ l .loop .inv
-
-add-line-feed : tie.Need-add-line-feed Inv-loop μ-loop
-add-line-feed c = search needs
-
-line-feed-requires : tie.Need-line-feed-requires Inv-loop μ-loop
-line-feed-requires c κs = search needs
-
-add-t12 : tie.Need-add-t12 Inv-loop μ-loop
-add-t12 c =
     let l = c .before .before .before .before .before .before in
-    omega (arith, feed-inside (now (l .before .before .args .text)) (l .loop .i + 1) (sym (c .before .line-feed .ensures) ∙ c .if3 .taken))
+    feed-return (l .loop .inv) (omega arith) (c .before .before .before .if1 .taken) (c .before .before .if2 .taken) (c .if3 .taken)
+
+add-t15 : tie.Need-add-t15 Inv-loop μ-loop
+add-t15 c = search needs
 
 returns-2 : tie.Need-returns-2 Inv-loop μ-loop
 returns-2 c =
-    let l = c .before .before .before .before .before .before in
-    line-return (now (l .before .before .args .text)) (l .loop .i) (omega arith) (c .before .before .before .if1 .left) (c .before .before .if2 .taken)
-    (sym (c .before .line-feed .ensures) ∙ c .if3 .taken)
-    ∙ l .loop .inv
+    let l = c .before .before .before .before in
+    ⊎-elim (λ w. feed-behind (l .loop .inv) (omega arith) (c .before .if1 .taken) (w .2 .left)) (λ w. feed-first (l .loop .inv) (omega arith) (c .before .if1 .taken) (let h = w .left in omega arith))
+    (c .if2 .came)
 
 add-i : tie.Need-add-i Inv-loop μ-loop
 add-i c = search needs
@@ -59,18 +54,10 @@ loop-less : tie.Need-loop-less Inv-loop μ-loop
 loop-less c = search needs
 
 loop-again : tie.Need-loop-again Inv-loop μ-loop
-loop-again c =
-    let l = c .before .before .before .before in
-    let t = now (l .before .before .args .text) in
-    let i = l .loop .i in
-    let e : eqb (getD t i 0) 13 && startsLF (drop (i + 1) t) ≡ false =
-    ⊎-elim (λ w. rw (eq-eqb _ _ (w .0 .taken)) (sym (w .1 .ensures) ∙ w .2 .left)) (λ w. rw (ne-eqb _ _ (w .left))) (c .if2 .came) in
-    line-more t i (omega arith) (c .before .if1 .left) e ∙ l .loop .inv
+loop-again c = sought-turn (c .before .before .before .loop .inv) (omega arith) (c .if1 .left)
 
 returns-3 : tie.Need-returns-3 Inv-loop μ-loop
-returns-3 c =
-    let l = c .before in
-    line-none (now (l .before .before .args .text)) (l .loop .i) (omega arith) ∙ l .loop .inv
+returns-3 c = sought-end (c .before .loop .inv) (omega arith)
 
 pub next-line-spec : {M : Type 1} → statement M
 next-line-spec =
@@ -79,12 +66,13 @@ next-line-spec =
     Inv-loop
     μ-loop
     loop-holds
-    shared-slice-read-b
-    add-t9
+    shared-slice-read-if1
+    sub-if3
+    shared-slice-read-if3
+    sub-t13
+    add-t14
     returns
-    add-line-feed
-    line-feed-requires
-    add-t12
+    add-t15
     returns-2
     add-i
     loop-less
