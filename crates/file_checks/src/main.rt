@@ -203,6 +203,7 @@ fn check_shapes(
     samples: &mut [i64],
 ) -> Verdict
     requires { ⌜ soundOf (now file) ≡ true ⌝ }
+    requires { ⌜ NoneAgain (now table) rows ⌝ }
 {
     let k = sampling::expand_shapes(file, edition, table, rows, samples);
     if k < rows {

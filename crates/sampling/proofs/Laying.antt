@@ -10,6 +10,7 @@ use lib.IntN.{ℤ, pos, natAbs}
 use lib.ListN.{length, take, drop}
 use lib.Seq.{sets, sets-eq, drop-drop}
 use Rattle.signed.specs.Signed.{sameZ}
+use Rattle.signed.proofs.Sign.{sameZ-true}
 use Rattle.expanding.specs.Alone.{expandedOf, tableOf, Expansion}
 use Rattle.shape.specs.declared.Edition.{Edition}
 use Rattle.shape.specs.declared.Expanded.{Expanded}
@@ -17,13 +18,14 @@ use Rattle.stored.specs.Inside.{nextOf, walkStart, Walked}
 use Rattle.stored.specs.declared.Walk.{Walk}
 use Rattle.stored.specs.declared.Sought.{Sought}
 use Rattle.passing.specs.Sound.{soundOf}
-use Rattle.stored.proofs.Walking.{walked-start, next-holds, next-walked}
+use Rattle.stored.proofs.Walking.{walked-start, walked-less, next-holds, next-walked}
 use Rattle.grammar.proofs.Parts.{Holds}
-use Rattle.tables.specs.Tables.{firstSuch, numberAt}
-use Rattle.tables.proofs.Found.{such-start, such-here, such-further, such-none}
+use Rattle.columns.specs.Columns.{shapeKind}
+use Rattle.tables.specs.Tables.{firstSuch, numberAt, classOf, classAt, isRowOf, firstRow, NoneAgain}
+use Rattle.tables.proofs.Found.{such-start, such-here, such-further, such-none, first-is}
 use Rattle.sampling.specs.Sampling.{isShapeRow, textAt, numAt, placeAt, fromAt, roomAt, failed, failsAt, firstFailing, laidAt, laidFrom, Sampled}
 use Rattle.sampling.specs.declared.Turned.{Turned}
-use Rattle.sampling.specs.Inside.{ShapeSampled, RowSampled}
+use Rattle.sampling.specs.Inside.{ShapeSampled, NewTo, IsNew, RowSampled}
 use Rattle.sampling.proofs.Failing.{table-length}
 
 -- ---- a part that was lent, put back
@@ -69,33 +71,60 @@ module _ (edition : Edition) (text : List ℕ) (rows : List ℤ) (k : ℕ) (l : 
     pub shape-laid : ShapeSampled edition text rows k l r (putMid from (from + room - from) l m)
     shape-laid = record { answer = q ∙ ap failed expanded-is; samples = put-is ∙ rw (table-is, num-is, from-is, room-is) }
 
--- ---- the stored lines of row k, sought from a walk
-pub row-text : (file : List ℕ) (rows : List ℤ) (k : ℕ) (walk : Walk) → Walked file walk → (id : ℤ) → id ≡ numberAt rows k 1 → (x : Sought) → x ≡ nextOf file walk id
-    → Holds file (x .part) (textAt file rows k)
-unfolding textAt
-row-text file rows k walk w id i x q = rw (q, ← i) (next-holds file walk w id)
+-- ---- rows before a row, and that row
+new-less : (rows : List ℤ) (k : ℕ) (id : ℤ) → NewTo rows (k + 1) id → NewTo rows k id
+unfolding NewTo
+new-less rows k id h j l = h j (omega arith)
+
+-- a shape's class is its own
+shape-class : (rows : List ℤ) (k : ℕ) → isShapeRow rows k ≡ true → classAt rows k ≡ pos shapeKind
+unfolding isShapeRow classAt classOf sameZ
+shape-class rows k e = rw (sameZ-true (numberAt rows k 0) (pos shapeKind) e)
+
+new-but : (rows : List ℤ) (k : ℕ) → isShapeRow rows k ≡ true → (id : ℤ) → NewTo rows (k + 1) id → sameZ (numberAt rows k 1) id ≡ false
+unfolding NewTo isRowOf sameZ
+new-but rows k e id h = rw (shape-class rows k e) at (h k (omega arith))
+
+pub is-new : (rows : List ℤ) (n : ℕ) → NoneAgain rows n → (k : ℕ) → k < n → IsNew rows k
+unfolding NoneAgain firstRow IsNew NewTo
+is-new rows n once k l e j h =
+    let f = once k l in
+    let g = first-is (isRowOf rows (classAt rows k) (numberAt rows k 1)) 0 n in
+    rw (shape-class rows k e) at (g .before j (omega arith) (omega arith))
+
+-- ---- the stored lines of row k, a shape, sought from a walk that passed the shapes of the rows before
+module _ (file : List ℕ) (rows : List ℤ) (k : ℕ) (walk : Walk) (w : Walked file (NewTo rows k) walk) (new : IsNew rows k)
+    (kind : ℤ) (p : kind ≡ numberAt rows k 0) (e : sameZ kind (pos 11) ≡ true) (id : ℤ) (i : id ≡ numberAt rows k 1) (x : Sought) (q : x ≡ nextOf file walk id) where
+  is-shape : isShapeRow rows k ≡ true
+  unfolding isShapeRow
+  is-shape = rw (← p) e
+
+  id-new : NewTo rows k id
+  unfolding IsNew
+  id-new = rw i (new is-shape)
+
+  pub row-text : Holds file (x .part) (textAt file rows k)
+  unfolding textAt
+  row-text = rw (q, ← i) (next-holds file (NewTo rows k) walk w id id-new)
+
+  pub row-walked : Walked file (NewTo rows (k + 1)) (x .walk)
+  row-walked = rw q (walked-less (λ a h. (new-less rows k a h, rw i (new-but rows k is-shape a h))) (next-walked file (NewTo rows k) walk w id id-new))
 
 -- ---- row k, whose kind was read
 module _ (edition : Edition) (file : List ℕ) (rows : List ℤ) (k : ℕ) (l : List ℤ) (kind : ℤ) (p : kind ≡ numberAt rows k 0) where
-  module _ (e : sameZ kind (pos 11) ≡ true) (walk : Walk) (w : Walked file walk) (id : ℤ) (x : Sought) (q : x ≡ nextOf file walk id) where
-    pub row-shape : (text : List ℕ) → text ≡ textAt file rows k → (failed : Bool) (l′ : List ℤ) → ShapeSampled edition text rows k l failed l′
-        → RowSampled edition file rows k l (record { failed = failed; walk = x .walk }) l′
-    unfolding failsAt laidAt isShapeRow
-    row-shape text t failed l′ s =
-        record {
-          answer = s .answer ∙ rw (← p, e, t);
-          samples = s .samples ∙ rw (← p, e, t);
-          walked = rw q (next-walked file walk w id);
-        }
-
-  pub row-other : sameZ kind (pos 11) ≡ false → (walk : Walk) → Walked file walk → RowSampled edition file rows k l (record { failed = false; walk = walk }) l
+  pub row-shape : sameZ kind (pos 11) ≡ true → (walk : Walk) → Walked file (NewTo rows (k + 1)) walk → (text : List ℕ) → text ≡ textAt file rows k → (failed : Bool) (l′ : List ℤ)
+      → ShapeSampled edition text rows k l failed l′ → RowSampled edition file rows k l (record { failed = failed; walk = walk }) l′
   unfolding failsAt laidAt isShapeRow
-  row-other e walk w = record { answer = rw (← p, e); samples = rw (← p, e); walked = w }
+  row-shape e walk w text t failed l′ s = record { answer = s .answer ∙ rw (← p, e, t); samples = s .samples ∙ rw (← p, e, t); walked = w }
+
+  pub row-other : sameZ kind (pos 11) ≡ false → (walk : Walk) → Walked file (NewTo rows k) walk → RowSampled edition file rows k l (record { failed = false; walk = walk }) l
+  unfolding failsAt laidAt isShapeRow
+  row-other e walk w = record { answer = rw (← p, e); samples = rw (← p, e); walked = walked-less (new-less rows k) w }
 
 -- ---- the loop: what the rows that are left give
 pub record Expanding (edition : Edition) (file : List ℕ) (rows : List ℤ) (n : ℕ) (l₀ l : List ℤ) (walk : Walk) (k : ℕ) : Type 0 where
   pub within : k ≤ n
-  pub walked : Walked file walk
+  pub walked : Walked file (NewTo rows k) walk
   pub long : length l ≡ length l₀
   pub first : firstSuch (failsAt edition file rows (length l₀)) k (n - k) ≡ firstFailing edition file rows (length l₀) n
   pub rest : laidFrom edition file rows (length l₀) k (n - k) l ≡ laidFrom edition file rows (length l₀) 0 n l₀
@@ -104,7 +133,7 @@ pub expanding-start : (edition : Edition) (file : List ℕ) (rows : List ℤ) (n
 unfolding firstFailing
 expanding-start edition file rows n sound l walk w =
     let e : n - 0 ≡ n = omega arith in
-    record { within = omega arith; walked = rw w (walked-start file sound); long = refl; first = such-start (failsAt edition file rows (length l)) n; rest = rw e }
+    record { within = omega arith; walked = rw w (walked-start file (NewTo rows 0) sound); long = refl; first = such-start (failsAt edition file rows (length l)) n; rest = rw e }
 
 module _ (edition : Edition) (file : List ℕ) (rows : List ℤ) (n : ℕ) (l₀ l : List ℤ) (walk : Walk) (k : ℕ) (x : Expanding edition file rows n l₀ l walk k) where
   pub expanding-end : n ≤ k → Sampled edition file rows n l₀ n l

@@ -5,9 +5,9 @@ ghost use lib.IntN.{natAbs};
 ghost use mathlib.Core.Bool.{true};
 ghost use Rattle.passing.specs.Sound.{soundOf};
 ghost use Rattle.stored.specs.Inside.{Walked};
-ghost use Rattle.tables.specs.Tables.{numberAt};
+ghost use Rattle.tables.specs.Tables.{numberAt, NoneAgain};
 ghost use Rattle.sampling.specs.Sampling.{failed, Sampled};
-ghost use Rattle.sampling.specs.Inside.{ShapeSampled, RowSampled};
+ghost use Rattle.sampling.specs.Inside.{ShapeSampled, NewTo, IsNew, RowSampled};
 use shape::Edition;
 use shape::Expanded;
 use stored::Walk;
@@ -63,7 +63,7 @@ fn expand_shape(
     has_failed(expanding::expand(stored, num, edition, &mut samples[from..to]))
 }
 
-// Expands row k, if it is a shape: its stored lines are sought from where the walk stands.
+// Expands row k, if it is a shape: its stored lines are sought from where the walk stands, which passed the shapes of the rows before.
 fn expand_row(
     file: &[u8],
     walk: Walk,
@@ -73,7 +73,8 @@ fn expand_row(
     samples: &mut [i64],
 ) -> Turned
     requires { ⌜ soundOf (now file) ≡ true ⌝ }
-    requires { ⌜ Walked (now file) walk ⌝ }
+    requires { ⌜ Walked (now file) (NewTo (now rows) k) walk ⌝ }
+    requires { ⌜ IsNew (now rows) k ⌝ }
     ensures { λ r. ⌜ RowSampled edition (now (file .entry)) (now (rows .entry)) k (now (samples .entry)) r (now (samples .exit)) ⌝ }
 {
     if signed::same(tables::number(rows, k, 0), 11) {
@@ -103,6 +104,7 @@ pub fn expand_shapes(
     samples: &mut [i64],
 ) -> usize
     requires { ⌜ soundOf (now file) ≡ true ⌝ }
+    requires { ⌜ NoneAgain (now rows) n ⌝ }
     ensures { λ r. ⌜ Sampled edition (now (file .entry)) (now (rows .entry)) n (now (samples .entry)) r (now (samples .exit)) ⌝ }
 {
     let mut walk = stored::walk_start();

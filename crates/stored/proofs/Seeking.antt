@@ -1,13 +1,12 @@
 -- A shape sought line by line: what the lines that are left give, the whole search gives. Assumes nothing.
 use Prim.Native.Nat.{ℕ, suc, _+_, _-_, _≤_}
-use mathlib.Core.Bool.{Bool, true, false, _&&_}
+use mathlib.Core.Bool.{Bool, true, false, cond, _&&_}
 use mathlib.Core.List.{List}
-use mathlib.Core.Path.{_≡_, refl, sym}
+use mathlib.Core.Path.{_≡_, refl}
 use native.Mathlib.Numerals.{add-one}
 use native.Mathlib.Omega.{arith}
 use lib.IntN.{ℤ, pos}
 use lib.ListN.{length, getD, take, drop, drop-of-length-le}
-use lib.Signed.{ltZ}
 use Rattle.text.specs.Lines.{linesOf, wholeLinesOf}
 use Rattle.text.specs.Marks.{markOf}
 use Rattle.signed.specs.Signed.{sameZ}
@@ -28,28 +27,9 @@ use Rattle.passing.proofs.Over.{Gave, nothing, columns, Over}
 use Rattle.passing.proofs.Sound.{sound-here, sound-next, sound-over, sound-behind}
 use Rattle.stored.specs.Shapes.{isShape}
 use Rattle.stored.specs.Places.{valuesPart}
-use Rattle.stored.specs.Inside.{idOf, mostOf, passedOf, soughtFrom, soughtOf}
+use Rattle.stored.specs.Inside.{idOf, isWanted, passedOf, soughtFrom, soughtOf}
 use Rattle.stored.specs.declared.Walk.{Walk}
 use Rattle.stored.proofs.Stored.{storedLen}
-
--- ---- two IDs compared, as they were read
-pub less-read : {r : Bool} (a b x y : ℤ) → r ≡ ltZ x y → x ≡ a → y ≡ b → ltZ a b ≡ r
-less-read a b x y e p q = sym (rw (p, q) at e)
-
--- ---- the greatest ID of the shapes passed, behind a line
-module _ (most : ℤ) (s : Stepped) where
-  pub most-other : isShape (idOf s) s ≡ false → most ≡ mostOf most s
-  unfolding mostOf
-  most-other e = rw e
-
-  module _ (e : isShape (idOf s) s ≡ true) where
-    pub most-new : ltZ most (idOf s) ≡ true → idOf s ≡ mostOf most s
-    unfolding mostOf
-    most-new h = rw (e, h)
-
-    pub most-old : ltZ most (idOf s) ≡ false → most ≡ mostOf most s
-    unfolding mostOf
-    most-old h = rw (e, h)
 
 -- ---- a line that is passed over is no shape
 no-shape : (id : ℤ) (st : State) (s : Stepped) → Over st s → isShape id s ≡ false
@@ -71,24 +51,36 @@ no-shape id st s o = go (o .gave)
         by-form Trigger = refl
 
 over-passed : (walk : Walk) (s : Stepped) → Over (walk .state) s → (behind : ℕ)
-    → passedOf walk s behind ≡ record { at = behind; lines = suc (walk .lines); state = walk .state; most = walk .most }
+    → passedOf walk s behind ≡ record { at = behind; lines = suc (walk .lines); state = walk .state }
 unfolding passedOf
-over-passed walk s o behind = rw (← most-other (walk .most) s (no-shape (idOf s) (walk .state) s o), o .next)
+over-passed walk s o behind = rw (o .next)
+
+pub wanted-any : (any : Bool) (id : ℤ) (s : Stepped) → any ≡ true → isShape (idOf s) s ≡ isWanted any id s
+unfolding isWanted
+wanted-any any id s e = rw e
+
+pub wanted-one : (any : Bool) (id : ℤ) (s : Stepped) → any ≡ false → isShape id s ≡ isWanted any id s
+unfolding isWanted
+wanted-one any id s e = rw e
+
+not-wanted : (any : Bool) (id : ℤ) (st : State) (s : Stepped) → Over st s → isWanted any id s ≡ false
+unfolding isWanted
+not-wanted any id st s o = no-shape (cond any (idOf s) id) st s o
 
 -- ---- the loop to the shape
-pub record Seeking (file : List ℕ) (id : ℤ) (from walk : Walk) : Type 0 where
+pub record Seeking (file : List ℕ) (any : Bool) (id : ℤ) (from walk : Walk) : Type 0 where
   pub lines : walk .lines ≤ walk .at
   pub sound : soundFrom (walk .state) (suc (walk .lines)) (linesOf (drop (walk .at) file)) ≡ true
-  pub same : soughtOf file walk id ≡ soughtOf file from id
+  pub same : soughtOf file walk any id ≡ soughtOf file from any id
 
-module _ (file : List ℕ) (id : ℤ) (from walk : Walk) (k : Seeking file id from walk) where
+module _ (file : List ℕ) (any : Bool) (id : ℤ) (from walk : Walk) (k : Seeking file any id from walk) where
   module _ (r : Line) (l : LineAt file (walk .at) r) (w : WholeAt file (walk .at) r) where
     abbrev step : Stepped
     step = stepOf (walk .state) (suc (walk .lines)) (take (r .stop - walk .at) (drop (walk .at) file))
 
     -- a line that is passed over
     pub seek-pass : passesOf (walk .state .place) (markOf (take (r .stop - walk .at) (drop (walk .at) file))) ≡ true
-        → Seeking file id from (record { at = r .next; lines = walk .lines + 1; state = walk .state; most = walk .most })
+        → Seeking file any id from (record { at = r .next; lines = walk .lines + 1; state = walk .state })
     unfolding soughtOf soughtFrom
     seek-pass p =
         let a = k .lines in
@@ -99,7 +91,7 @@ module _ (file : List ℕ) (id : ℤ) (from walk : Walk) (k : Seeking file id fr
         (record {
           lines = omega arith;
           sound = sound-behind l (walk .state) (suc (walk .lines)) (k .sound) p;
-          same = rw (w .whole, w .bare, e, no-shape id (walk .state) step o, whole-ends l, over-passed walk step o (r .next)) at (k .same);
+          same = rw (w .whole, w .bare, e, not-wanted any id (walk .state) step o, whole-ends l, over-passed walk step o (r .next)) at (k .same);
         })
 
     -- a line that is read
@@ -110,12 +102,12 @@ module _ (file : List ℕ) (id : ℤ) (from walk : Walk) (k : Seeking file id fr
       no-fault : isFault (s .found) ≡ false
       no-fault = rw step-is (sound-here l (walk .state) (suc (walk .lines)) (k .sound))
 
-      pub seek-hit : isShape id s ≡ true → (stop : ℕ) → stop ≡ r .next + storedLen (drop (r .next) file)
-          → record { part = record { start = r .next; stop = stop }; walk = passed } ≡ soughtOf file from id
+      pub seek-hit : isWanted any id s ≡ true → (stop : ℕ) → stop ≡ r .next + storedLen (drop (r .next) file) → (own : ℤ) → own ≡ idOf s
+          → record { part = record { start = r .next; stop = stop }; id = own; walk = passed } ≡ soughtOf file from any id
       unfolding soughtOf soughtFrom valuesPart
-      seek-hit f stop h = rw (h, q) (rw (w .whole, w .bare, ← step-is, no-fault, f, whole-ends l) at (k .same))
+      seek-hit f stop h own o = rw (h, q, o) (rw (w .whole, w .bare, ← step-is, no-fault, f, whole-ends l) at (k .same))
 
-      pub seek-turn : isShape id s ≡ false → Seeking file id from passed
+      pub seek-turn : isWanted any id s ≡ false → Seeking file any id from passed
       unfolding soughtOf soughtFrom passedOf
       seek-turn f =
           let a = k .lines in
@@ -127,12 +119,11 @@ module _ (file : List ℕ) (id : ℤ) (from walk : Walk) (k : Seeking file id fr
             same = rw (w .whole, w .bare, ← step-is, no-fault, f, whole-ends l) at (k .same);
           })
 
-  pub seek-end : length file ≤ walk .at → record { part = noPart; walk = walk } ≡ soughtOf file from id
+  pub seek-end : length file ≤ walk .at → record { part = noPart; id = pos 0; walk = walk } ≡ soughtOf file from any id
   unfolding soughtOf soughtFrom wholeLinesOf
   seek-end h = rw (drop-of-length-le file h) at (k .same)
 
 -- the walk behind a line, as it is put together
-pub passed-is : (walk : Walk) (s : Stepped) (behind : ℕ) (most : ℤ) → most ≡ mostOf (walk .most) s
-    → record { at = behind; lines = walk .lines + 1; state = s .next; most = most } ≡ passedOf walk s behind
+pub passed-is : (walk : Walk) (s : Stepped) (behind : ℕ) → record { at = behind; lines = walk .lines + 1; state = s .next } ≡ passedOf walk s behind
 unfolding passedOf
-passed-is walk s behind most m = rw (m, add-one (walk .lines))
+passed-is walk s behind = rw (add-one (walk .lines))

@@ -1,20 +1,17 @@
 -- A walk from shape to shape finds what a search from the front finds. Assumes nothing.
-use Prim.Native.Nat.{ℕ, suc, _+_, _-_, _≤_, _<_}
+use Prim.Native.Nat.{ℕ, suc, _+_, _-_, _≤_}
 use mathlib.Core.Bool.{Bool, true, false, cond, true≢false, _&&_}
 use mathlib.Core.List.{List, [], _∷_}
 use mathlib.Core.Path.{_≡_, refl, sym, _∙_}
 use native.Mathlib.Omega.{arith}
-use borrow.Author.Tests.{ltb-true, leb-true, lt-ltb, le-ltb, le-leb, lt-leb}
-use lib.Dec.{leb}
-use lib.IntN.{ℤ, pos, negsuc}
+use lib.IntN.{ℤ, pos}
 use lib.ListN.{length, getD, take, drop, drop-of-length-le}
-use lib.Signed.{ltZ}
 use Rattle.text.specs.Lines.{linesOf, wholeLinesOf, bareOf}
 use Rattle.text.specs.declared.Line.{Line}
 use Rattle.text.proofs.Cases.{and-both}
 use Rattle.text.proofs.Cut.{LineAt, WholeAt}
 use Rattle.signed.specs.Signed.{sameZ}
-use Rattle.signed.proofs.Sign.{sameZ-true}
+use Rattle.signed.proofs.Sign.{sameZ-true, sameZ-refl}
 use Rattle.columns.specs.Columns.{shapeKind}
 use Rattle.fields.specs.declared.Part.{Part}
 use Rattle.grammar.specs.Parts.{noPart}
@@ -28,34 +25,13 @@ use Rattle.passing.specs.Sound.{soundFrom, soundOf}
 use Rattle.passing.proofs.Sound.{sound-next}
 use Rattle.stored.specs.Shapes.{isShape, storedOf}
 use Rattle.stored.specs.Places.{valuesPart, storedPlaceFrom, storedPlace}
-use Rattle.stored.specs.Inside.{walkStart, idOf, mostOf, passedOf, soughtFrom, soughtOf, isAhead, nextOf, Walked}
+use Rattle.stored.specs.Inside.{walkStart, idOf, isWanted, passedOf, soughtFrom, soughtOf, nextOf, Walked}
 use Rattle.stored.specs.declared.Walk.{Walk}
 use Rattle.stored.specs.declared.Sought.{Sought}
 use Rattle.stored.proofs.Stored.{stored-holds}
 
--- ---- an ID above the greatest behind a line is above the greatest before it, and not the line's own
-above-above : (a b c : ℤ) → ltZ a b ≡ true → ltZ b c ≡ true → ltZ a c ≡ true
-above-above (pos a) (pos b) (pos c) e f = let h = ltb-true a b e in let k = ltb-true b c f in lt-ltb a c (omega arith)
-above-above (pos a) (pos b) (negsuc c) e f = f
-above-above (pos a) (negsuc b) c e f = absurd (true≢false (sym e))
-above-above (negsuc a) (pos b) (pos c) e f = refl
-above-above (negsuc a) (pos b) (negsuc c) e f = absurd (true≢false (sym f))
-above-above (negsuc a) (negsuc b) (pos c) e f = refl
-above-above (negsuc a) (negsuc b) (negsuc c) e f = let h = ltb-true b a e in let k = ltb-true c b f in lt-ltb c a (omega arith)
-
-not-above : (a : ℤ) → ltZ a a ≡ false
-not-above (pos a) = le-ltb a a (omega arith)
-not-above (negsuc a) = le-ltb a a (omega arith)
-
-module _ (most : ℤ) (s : Stepped) (id : ℤ) where
-  above-most : ltZ (mostOf most s) id ≡ true → ltZ most id ≡ true
-  unfolding mostOf
-  above-most = go (isShape (idOf s) s && ltZ most (idOf s)) refl
-    where
-      go : (b : Bool) → isShape (idOf s) s && ltZ most (idOf s) ≡ b → ltZ (cond b (idOf s) most) id ≡ true → ltZ most id ≡ true
-      go true e h = above-above most (idOf s) id (and-both (isShape (idOf s) s) (ltZ most (idOf s)) e .1) h
-      go false e h = h
-
+-- ---- a line that is no shape of its own ID is a shape of none; a shape has its own ID alone
+module _ (s : Stepped) (id : ℤ) where
   own-id : isShape id s ≡ true → idOf s ≡ id
   unfolding isShape
   own-id e =
@@ -63,31 +39,53 @@ module _ (most : ℤ) (s : Stepped) (id : ℤ) where
       (and-both (sameZ (getD (s .cells) 0 (pos 0)) (pos shapeKind)) (sameZ (idOf s) id)
       (and-both (isRow (s .found)) (sameZ (getD (s .cells) 0 (pos 0)) (pos shapeKind) && sameZ (idOf s) id) e .1) .1)
 
-  most-own : isShape id s ≡ true → ltZ most id ≡ true → mostOf most s ≡ id
-  unfolding mostOf
-  most-own e h = rw (own-id e, e, h)
-
-  not-own : ltZ (mostOf most s) id ≡ true → isShape id s ≡ false
-  not-own h = go (isShape id s) refl
+  no-shape : isShape (idOf s) s ≡ false → isShape id s ≡ false
+  no-shape n = go (isShape id s) refl
     where
       go : (b : Bool) → isShape id s ≡ b → b ≡ false
-      go true e = absurd (true≢false (sym (rw (most-own e (above-most h)) at h) ∙ not-above id))
+      go true e = absurd (true≢false (sym (rw (own-id e) e) ∙ n))
       go false e = refl
 
--- ---- the part that is found does not depend on the IDs passed
-pub sought-part : (id : ℤ) (walk : Walk) (ws : List (List ℕ)) → soughtFrom id walk ws .part ≡ storedPlaceFrom id (walk .state) (suc (walk .lines)) (walk .at) ws
-unfolding soughtFrom storedPlaceFrom passedOf
+  other-shape : sameZ (idOf s) id ≡ false → isShape id s ≡ false
+  other-shape n = go (isShape id s) refl
+    where
+      go : (b : Bool) → isShape id s ≡ b → b ≡ false
+      go true e = absurd (true≢false (sym (sameZ-refl id) ∙ rw (own-id e) at n))
+      go false e = refl
+
+-- ---- the part that is found: by its ID, or because the next shape has it
+abbrev none : Walk → Sought
+none walk = record { part = noPart; id = pos 0; walk = walk }
+
+sought-part : (id : ℤ) (walk : Walk) (ws : List (List ℕ)) → soughtFrom false id walk ws .part ≡ storedPlaceFrom id (walk .state) (suc (walk .lines)) (walk .at) ws
+unfolding soughtFrom storedPlaceFrom passedOf isWanted
 sought-part id walk [] = refl
 sought-part id walk (w ∷ ws) =
     let s : Stepped = stepOf (walk .state) (suc (walk .lines)) (bareOf w) in
     let at : ℕ = walk .at + length w in
-    go (isFault (s .found)) (isShape id s) (valuesPart at ws) (passedOf walk s at) (soughtFrom id (passedOf walk s at) ws) (sought-part id (passedOf walk s at) ws)
+    go (isFault (s .found)) (isShape id s) (valuesPart at ws) (idOf s) (passedOf walk s at) (soughtFrom false id (passedOf walk s at) ws) (sought-part id (passedOf walk s at) ws)
   where
-    go : (f h : Bool) (v : Part) (on : Walk) (x : Sought) {p : Part} → x .part ≡ p
-        → cond f (record { part = noPart; walk = walk }) (cond h (record { part = v; walk = on }) x) .part ≡ cond f noPart (cond h v p)
-    go true h v on x e = refl
-    go false true v on x e = refl
-    go false false v on x e = e
+    go : (f h : Bool) (v : Part) (own : ℤ) (on : Walk) (x : Sought) {p : Part} → x .part ≡ p
+        → cond f (none walk) (cond h (record { part = v; id = own; walk = on }) x) .part ≡ cond f noPart (cond h v p)
+    go true h v own on x e = refl
+    go false true v own on x e = refl
+    go false false v own on x e = e
+
+next-sought : (id : ℤ) (walk : Walk) (ws : List (List ℕ)) → sameZ (soughtFrom true id walk ws .id) id ≡ true
+    → soughtFrom true id walk ws .part ≡ storedPlaceFrom id (walk .state) (suc (walk .lines)) (walk .at) ws
+unfolding soughtFrom storedPlaceFrom passedOf isWanted
+next-sought id walk [] e = refl
+next-sought id walk (w ∷ ws) e =
+    let s : Stepped = stepOf (walk .state) (suc (walk .lines)) (bareOf w) in
+    let at : ℕ = walk .at + length w in
+    go s (isFault (s .found)) (isShape (idOf s) s) refl (valuesPart at ws) (passedOf walk s at) (soughtFrom true id (passedOf walk s at) ws) (next-sought id (passedOf walk s at) ws) e
+  where
+    go : (s : Stepped) (f h : Bool) → isShape (idOf s) s ≡ h → (v : Part) (on : Walk) (x : Sought) {p : Part} → (sameZ (x .id) id ≡ true → x .part ≡ p)
+        → sameZ (cond f (none walk) (cond h (record { part = v; id = idOf s; walk = on }) x) .id) id ≡ true
+        → cond f (none walk) (cond h (record { part = v; id = idOf s; walk = on }) x) .part ≡ cond f noPart (cond (isShape id s) v p)
+    go s true h i v on x y e = refl
+    go s false true i v on x y e = rw (rw (sameZ-true (idOf s) id e) at i)
+    go s false false i v on x y e = rw (no-shape s id i) (y e)
 
 pub front-lines : (walk : Walk) → walk ≡ walkStart → walk .lines ≤ walk .at
 unfolding walkStart
@@ -97,100 +95,96 @@ pub front-sound : (file : List ℕ) (walk : Walk) → walk ≡ walkStart → sou
 unfolding walkStart soundOf
 front-sound file walk e s = rw e s
 
-pub front-part : (file : List ℕ) (id : ℤ) (walk : Walk) → walk ≡ walkStart → (x : Sought) → x ≡ soughtOf file walk id → x .part ≡ storedPlace file id
+pub front-part : (file : List ℕ) (id : ℤ) (walk : Walk) → walk ≡ walkStart → (x : Sought) → x ≡ soughtOf file walk false id → x .part ≡ storedPlace file id
 unfolding soughtOf walkStart storedPlace
 front-part file id walk e x p = rw (p, e) (sought-part id walkStart (wholeLinesOf file))
 
 -- ---- a walk that came from the front, line by line
-pub front-is : (st : State) → st ≡ fresh → record { at = 0; lines = 0; state = st; most = pos 0 } ≡ walkStart
+pub front-is : (st : State) → st ≡ fresh → record { at = 0; lines = 0; state = st } ≡ walkStart
 unfolding walkStart
 front-is st e = rw e
 
-pub walked-start : (file : List ℕ) → soundOf file ≡ true → Walked file walkStart
+pub walked-start : (file : List ℕ) (new : ℤ → Type 0) → soundOf file ≡ true → Walked file new walkStart
 unfolding walkStart storedPlace soundOf
-walked-start file s = record { lines = omega arith; sound = s; same = λ id e. refl }
+walked-start file new s = record { lines = omega arith; sound = s; same = λ id e. refl }
 
-abbrev standing : ℕ → ℕ → State → ℤ → Walk
-standing at lines st most = record { at = at; lines = lines; state = st; most = most }
+-- with fewer IDs that count as new
+pub walked-less : {file : List ℕ} {new fewer : ℤ → Type 0} {walk : Walk} → ((id : ℤ) → fewer id → new id) → Walked file new walk → Walked file fewer walk
+walked-less f x = record { lines = x .lines; sound = x .sound; same = λ id h. x .same id (f id h) }
 
-module _ (file : List ℕ) where
-  walked-turn : (walk : Walk) → Walked file walk → (r : Line) → LineAt file (walk .at) r → WholeAt file (walk .at) r
-      → (s : Stepped) → s ≡ stepOf (walk .state) (suc (walk .lines)) (take (r .stop - walk .at) (drop (walk .at) file)) → isFault (s .found) ≡ false → Walked file (passedOf walk s (r .next))
+-- all that were new but this
+abbrev pub But : (ℤ → Type 0) → ℤ → ℤ → Type 0
+But new own id = new id × (sameZ own id ≡ false)
+
+abbrev standing : ℕ → ℕ → State → Walk
+standing at lines st = record { at = at; lines = lines; state = st }
+
+module _ (file : List ℕ) (new : ℤ → Type 0) where
+  walked-turn : (walk : Walk) → Walked file new walk → (r : Line) → LineAt file (walk .at) r → WholeAt file (walk .at) r
+      → (s : Stepped) → s ≡ stepOf (walk .state) (suc (walk .lines)) (take (r .stop - walk .at) (drop (walk .at) file)) → isFault (s .found) ≡ false
+      → (fewer : ℤ → Type 0) → ((id : ℤ) → fewer id → new id × (isShape id s ≡ false)) → Walked file fewer (passedOf walk s (r .next))
   unfolding passedOf storedPlaceFrom
-  walked-turn walk x r l w s p e =
+  walked-turn walk x r l w s p e fewer f =
       let a = x .lines in
       let b = l .further in
       record {
         lines = omega arith;
         sound = rw (← p) at (sound-next l (walk .state) (suc (walk .lines)) (x .sound));
-        same = λ id h. rw (w .whole, w .bare, ← p, e, not-own (walk .most) s id h, whole-ends l) at (x .same id (above-most (walk .most) s id h));
+        same = λ id h. rw (w .whole, w .bare, ← p, e, f id h .1, whole-ends l) at (x .same id (f id h .0));
       }
 
-  -- and on to the shape
-  sought-walked : (at lines : ℕ) (st : State) (most : ℤ) → Walked file (standing at lines st most) → (id : ℤ)
-      → Walked file (soughtFrom id (standing at lines st most) (wholeLinesOf (drop at file)) .walk)
-  unfolding soughtFrom wholeLinesOf passedOf
+  -- and on behind the next shape
+  sought-walked : (at lines : ℕ) (st : State) → Walked file new (standing at lines st) → (id : ℤ)
+      → let x = soughtFrom true id (standing at lines st) (wholeLinesOf (drop at file)) in Walked file (But new (x .id)) (x .walk)
+  unfolding soughtFrom wholeLinesOf passedOf isWanted
   sought-walked =
       by-lines file
-      (λ at. (lines : ℕ) (st : State) (most : ℤ) → Walked file (standing at lines st most) → (id : ℤ)
-      → Walked file (soughtFrom id (standing at lines st most) (wholeLinesOf (drop at file)) .walk))
-      (λ at h lines st most x id. rw (drop-of-length-le file h) x)
-      (λ at r l w next lines st most x id. let walk : Walk = standing at lines st most in
+      (λ at. (lines : ℕ) (st : State) → Walked file new (standing at lines st) → (id : ℤ)
+      → let x = soughtFrom true id (standing at lines st) (wholeLinesOf (drop at file)) in Walked file (But new (x .id)) (x .walk))
+      (λ at h lines st x id. rw (drop-of-length-le file h) (walked-less (λ i n. n .0) x))
+      (λ at r l w next lines st x id. let walk : Walk = standing at lines st in
       let s : Stepped = stepOf st (suc lines) (take (r .stop - at) (drop at file)) in
-      let on : isFault (s .found) ≡ false → Walked file (passedOf walk s (r .next)) = walked-turn walk x r l w s refl in
       rw (w .whole, w .bare, whole-ends l)
-      (go walk x (isFault (s .found)) (isShape id s) (valuesPart (r .next) (wholeLinesOf (drop (r .next) file))) (passedOf walk s (r .next))
-      (soughtFrom id (passedOf walk s (r .next)) (wholeLinesOf (drop (r .next) file))) on (λ e. next (suc lines) (s .next) (mostOf most s) (on e) id)))
+      (go walk x s (isFault (s .found)) (isShape (idOf s) s) refl (valuesPart (r .next) (wholeLinesOf (drop (r .next) file))) (passedOf walk s (r .next))
+      (soughtFrom true id (passedOf walk s (r .next)) (wholeLinesOf (drop (r .next) file))) (walked-turn walk x r l w s refl) (λ y. next (suc lines) (s .next) y id)))
     where
-      go : (walk : Walk) → Walked file walk → (f h : Bool) (v : Part) (on : Walk) (y : Sought) → (f ≡ false → Walked file on) → (f ≡ false → Walked file (y .walk))
-          → Walked file (cond f (record { part = noPart; walk = walk }) (cond h (record { part = v; walk = on }) y) .walk)
-      go walk x true h v on y a b = x
-      go walk x false true v on y a b = a refl
-      go walk x false false v on y a b = b refl
+      go : (walk : Walk) → Walked file new walk → (s : Stepped) (f h : Bool) → isShape (idOf s) s ≡ h → (v : Part) (on : Walk) (y : Sought)
+          → (f ≡ false → (fewer : ℤ → Type 0) → ((id : ℤ) → fewer id → new id × (isShape id s ≡ false)) → Walked file fewer on)
+          → (Walked file new on → Walked file (But new (y .id)) (y .walk))
+          → let x = cond f (none walk) (cond h (record { part = v; id = idOf s; walk = on }) y) in Walked file (But new (x .id)) (x .walk)
+      go walk x s true h i v on y a b = walked-less (λ id n. n .0) x
+      go walk x s false true i v on y a b = a refl (But new (idOf s)) (λ id n. (n .0, other-shape s id (n .1)))
+      go walk x s false false i v on y a b = b (a refl new (λ id n. (n, no-shape s id i)))
 
--- ---- the next shape, sought from where a walk stands or from the front
-pub ahead-both : (walk : Walk) (id : ℤ) → isAhead walk id ≡ true → (leb (walk .lines) (walk .at) ≡ true) × (ltZ (walk .most) id ≡ true)
-unfolding isAhead
-ahead-both walk id = and-both (leb (walk .lines) (walk .at)) (ltZ (walk .most) id)
-
-pub ahead-lines : (walk : Walk) (id : ℤ) → isAhead walk id ≡ true → walk .lines ≤ walk .at
-ahead-lines walk id e = leb-true (walk .lines) (walk .at) (ahead-both walk id e .0)
-
-pub ahead-none : (walk : Walk) (id : ℤ) → walk .at < walk .lines → false ≡ isAhead walk id
-unfolding isAhead
-ahead-none walk id h = rw (lt-leb (walk .lines) (walk .at) h)
-
-pub ahead-above : (walk : Walk) (id : ℤ) → walk .lines ≤ walk .at → ltZ (walk .most) id ≡ isAhead walk id
-unfolding isAhead
-ahead-above walk id h = rw (le-leb (walk .lines) (walk .at) h)
-
+-- ---- the next shape, from where a walk stands or from the front
 module _ (file : List ℕ) (walk : Walk) (id : ℤ) where
-  pub next-on : isAhead walk id ≡ true → soughtOf file walk id ≡ nextOf file walk id
+  pub next-on : sameZ (soughtOf file walk true id .id) id ≡ true → soughtOf file walk true id ≡ nextOf file walk id
   unfolding nextOf
   next-on e = rw e
 
-  pub next-front : isAhead walk id ≡ false → (p : Part) → p ≡ storedPlace file id → record { part = p; walk = walk } ≡ nextOf file walk id
+  pub next-front : sameZ (soughtOf file walk true id .id) id ≡ false → (p : Part) → p ≡ storedPlace file id → record { part = p; id = id; walk = walk } ≡ nextOf file walk id
   unfolding nextOf
   next-front e p q = rw (e, q)
 
--- of a walk that came from the front
-module _ (file : List ℕ) (walk : Walk) (x : Walked file walk) (id : ℤ) where
-  pub next-part : nextOf file walk id .part ≡ storedPlace file id
+-- of a walk that came from the front, for an ID that is new
+module _ (file : List ℕ) (new : ℤ → Type 0) (walk : Walk) (x : Walked file new walk) (id : ℤ) (n : new id) where
+  next-part : nextOf file walk id .part ≡ storedPlace file id
   unfolding nextOf soughtOf
-  next-part = go (isAhead walk id) refl
+  next-part = go (sameZ (soughtFrom true id walk (wholeLinesOf (drop (walk .at) file)) .id) id) refl
     where
-      go : (b : Bool) → isAhead walk id ≡ b
-          → cond b (soughtFrom id walk (wholeLinesOf (drop (walk .at) file))) (record { part = storedPlace file id; walk = walk }) .part ≡ storedPlace file id
-      go true e = sought-part id walk (wholeLinesOf (drop (walk .at) file)) ∙ x .same id (ahead-both walk id e .1)
+      go : (b : Bool) → sameZ (soughtFrom true id walk (wholeLinesOf (drop (walk .at) file)) .id) id ≡ b
+          → cond b (soughtFrom true id walk (wholeLinesOf (drop (walk .at) file))) (record { part = storedPlace file id; id = id; walk = walk }) .part ≡ storedPlace file id
+      go true e = next-sought id walk (wholeLinesOf (drop (walk .at) file)) e ∙ x .same id n
       go false e = refl
 
   pub next-holds : Holds file (nextOf file walk id .part) (storedOf file id)
   next-holds = rw next-part (stored-holds file id)
 
-  pub next-walked : Walked file (nextOf file walk id .walk)
+  pub next-walked : Walked file (But new id) (nextOf file walk id .walk)
   unfolding nextOf soughtOf
-  next-walked = go (isAhead walk id)
+  next-walked = go (soughtFrom true id walk (wholeLinesOf (drop (walk .at) file))) (sought-walked file new (walk .at) (walk .lines) (walk .state) x id) _ refl
     where
-      go : (b : Bool) → Walked file (cond b (soughtFrom id walk (wholeLinesOf (drop (walk .at) file))) (record { part = storedPlace file id; walk = walk }) .walk)
-      go true = sought-walked file (walk .at) (walk .lines) (walk .state) (walk .most) x id
-      go false = x
+      go : (y : Sought) → Walked file (But new (y .id)) (y .walk) → (b : Bool) → sameZ (y .id) id ≡ b
+          → Walked file (But new id) (cond b y (record { part = storedPlace file id; id = id; walk = walk }) .walk)
+      go y w true e = rw (sameZ-true (y .id) id e) at w
+      go y w false e = walked-less (λ i m. m .0) x

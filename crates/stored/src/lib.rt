@@ -8,23 +8,23 @@ ghost use Rattle.text.specs.Marks.{markOf};
 ghost use Rattle.passing.specs.Sound.{soundFrom, soundOf};
 ghost use Rattle.stored.specs.Shapes.{endsShape, valuesText, isShape, storedOf};
 ghost use Rattle.stored.specs.Places.{storedPlace};
-ghost use Rattle.stored.specs.Inside.{walkStart, mostOf, soughtOf, isAhead, nextOf};
+ghost use Rattle.stored.specs.Inside.{walkStart, isWanted, soughtOf, nextOf};
 use fields::Part;
 use places::State;
 use places::Stepped;
 use text::Mark;
 
-// Where a walk over the lines of a file stands: the place, how many lines were passed, the state there, and the greatest ID of the shapes passed.
+// Where a walk over the lines of a file stands: the place, how many lines were passed, and the state there.
 pub struct Walk {
     pub at: usize,
     pub lines: usize,
     pub state: State,
-    pub most: i64,
 }
 
-// Where stored lines stand, and the walk that found them.
+// Where stored lines stand, the ID of their shape, and the walk that found them.
 pub struct Sought {
     pub part: Part,
+    pub id: i64,
     pub walk: Walk,
 }
 
@@ -72,18 +72,15 @@ fn is_shape(did: Stepped, id: i64) -> bool
     signed::same(number, id)
 }
 
-// The greatest ID of the shapes passed, behind a line that gave this.
-fn most_passed(most: i64, did: Stepped) -> i64
-    ensures { λ r. ⌜ r ≡ mostOf most did ⌝ }
+// Is this the row of a shape: of any, or of the one with this ID?
+fn is_wanted(did: Stepped, any: bool, id: i64) -> bool
+    ensures { λ r. ⌜ r ≡ isWanted any id did ⌝ }
 {
-    let id = did.cells[1];
-    if !is_shape(did, id) {
-        return most;
+    if any {
+        let own = did.cells[1];
+        return is_shape(did, own);
     }
-    if signed::less(most, id) {
-        return id;
-    }
-    most
+    is_shape(did, id)
 }
 
 // A walk at the front of a file.
@@ -94,16 +91,15 @@ pub fn walk_start() -> Walk
         at: 0,
         lines: 0,
         state: places::start(),
-        most: 0,
     }
 }
 
-// Walks on to the first shape with this ID; its stored lines are empty, and at the start, if there is none. Lines that leave the walk where it stands
-// are passed over.
-fn seek(file: &[u8], from: Walk, id: i64) -> Sought
+// Walks on to the next shape, of any ID or with this one; its stored lines are empty, and at the start, if there is none. Lines that leave the walk
+// where it stands are passed over.
+fn seek(file: &[u8], from: Walk, any: bool, id: i64) -> Sought
     requires { ⌜ from .lines ≤ from .at ⌝ }
     requires { ⌜ soundFrom (from .state) (suc (from .lines)) (linesOf (drop (from .at) (now file))) ≡ true ⌝ }
-    ensures { λ r. ⌜ r ≡ soughtOf (now (file .entry)) from id ⌝ }
+    ensures { λ r. ⌜ r ≡ soughtOf (now (file .entry)) from any id ⌝ }
 {
     let mut walk = from;
     while walk.at < file.len() {
@@ -123,20 +119,25 @@ fn seek(file: &[u8], from: Walk, id: i64) -> Sought
                 at: behind,
                 lines: number,
                 state: next,
-                most: most_passed(walk.most, did),
             };
-            if is_shape(did, id) {
+            if is_wanted(did, any, id) {
                 let part = Part {
                     start: behind,
                     stop: stored_end(file, behind),
                 };
-                return Sought { part, walk: passed };
+                let own = did.cells[1];
+                return Sought {
+                    part,
+                    id: own,
+                    walk: passed,
+                };
             }
             walk = passed;
         }
     }
     Sought {
         part: Part { start: 0, stop: 0 },
+        id: 0,
         walk,
     }
 }
@@ -146,31 +147,25 @@ pub fn stored_place(file: &[u8], id: i64) -> Part
     requires { ⌜ soundOf (now file) ≡ true ⌝ }
     ensures { λ r. ⌜ r ≡ storedPlace (now (file .entry)) id ⌝ }
 {
-    let sought = seek(file, walk_start(), id);
+    let sought = seek(file, walk_start(), false, id);
     sought.part
 }
 
-// Is a shape with this ID among the lines that are left, if it is anywhere? A walk that passed more lines than bytes is none.
-fn is_ahead(walk: Walk, id: i64) -> bool
-    ensures { λ r. ⌜ r ≡ isAhead walk id ⌝ }
-{
-    if walk.at < walk.lines {
-        return false;
-    }
-    signed::less(walk.most, id)
-}
-
-// The same, sought from where a walk stands if it is ahead, else from the front.
+// The same of the next shape from where a walk stands, if that has this ID, else sought from the front.
 pub fn stored_next(file: &[u8], walk: Walk, id: i64) -> Sought
     requires { ⌜ soundOf (now file) ≡ true ⌝ }
+    requires { ⌜ walk .lines ≤ walk .at ⌝ }
     requires { ⌜ soundFrom (walk .state) (suc (walk .lines)) (linesOf (drop (walk .at) (now file))) ≡ true ⌝ }
     ensures { λ r. ⌜ r ≡ nextOf (now (file .entry)) walk id ⌝ }
 {
-    if is_ahead(walk, id) {
-        return seek(file, walk, id);
+    let next = seek(file, walk, true, id);
+    let own = next.id;
+    if signed::same(own, id) {
+        return next;
     }
     Sought {
         part: stored_place(file, id),
+        id,
         walk,
     }
 }

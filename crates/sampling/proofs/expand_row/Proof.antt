@@ -1,14 +1,20 @@
 -- `sampling::expand_row` meets its contract: what stands at the place that was found are the stored lines. Assumes nothing.
+use Prim.Native.Nat.{_+_}
+use mathlib.Core.Bool.{true}
 use mathlib.Core.Path.{_≡_, refl, _∙_}
 use denote.Ref.{now}
+use lib.IntN.{pos}
 use mir.Syntax.{w64}
 use mir.Val.{toZ, ofZ}
+use Rattle.signed.specs.Signed.{sameZ}
 use Rattle.signed.proofs.Machine.{rd-at}
 use Rattle.grammar.proofs.Parts.{Holds}
 use Rattle.tables.specs.Tables.{numberAt}
 use Rattle.tables.proofs.Numbers.{compared}
 use Rattle.sampling.specs.Sampling.{textAt}
-use Rattle.sampling.proofs.Laying.{row-text, row-shape, row-other}
+use Rattle.sampling.specs.Inside.{NewTo}
+use Rattle.stored.specs.Inside.{Walked}
+use Rattle.sampling.proofs.Laying.{row-text, row-walked, row-shape, row-other}
 use borrow.Author.Needs.{needs}
 use Rattle.sampling.proofs.expand_row.Statement.{statement}
 use Rattle.sampling.proofs.expand_row.Tie as tie
@@ -17,8 +23,22 @@ use Rattle.sampling.proofs.expand_row.Tie as tie
 id-is : (c : tie.After-number2) → toZ w64 (ofZ w64 (c .number2 .result)) ≡ numberAt (now (c .before .before .before .before .before .args .rows)) (c .before .before .before .before .before .args .k) 1
 id-is c = rd-at _ (c .number2 .ok) ∙ c .number2 .ensures
 
-there : (c : tie.After-stored-next) → Holds (now (c .before .before .before .before .before .before .args .file)) (c .stored-next .result .part) (textAt (now (c .before .before .before .before .before .before .args .file)) (now (c .before .before .before .before .before .before .args .rows)) (c .before .before .before .before .before .before .args .k))
-there c = row-text _ _ _ _ (c .before .before .before .before .before .before .pre .1) _ (id-is (c .before)) _ (c .stored-next .ensures)
+-- what it is sought from: a walk, and a row that is a shape
+module _ (c : tie.After-stored-next) where
+  abbrev own : tie.After-number2
+  own = c .before
+
+  abbrev begun : tie.Start
+  begun = own .before .before .before .before .before
+
+  is-shape : sameZ (own .before .before .before .number .result) (pos 11) ≡ true
+  is-shape = compared _ _ _ _ (own .before .before .same .ensures) (rd-at _ (own .before .before .before .number .ok)) refl ∙ own .before .if1 .taken
+
+  there : Holds (now (begun .args .file)) (c .stored-next .result .part) (textAt (now (begun .args .file)) (now (begun .args .rows)) (begun .args .k))
+  there = row-text _ _ _ _ (begun .pre .1 .0) (begun .pre .1 .1) _ (own .before .before .before .number .ensures) is-shape _ (id-is own) _ (c .stored-next .ensures)
+
+  walked : Walked (now (begun .args .file)) (NewTo (now (begun .args .rows)) (begun .args .k + 1)) (c .stored-next .result .walk)
+  walked = row-walked _ _ _ _ (begun .pre .1 .0) (begun .pre .1 .1) _ (own .before .before .before .number .ensures) is-shape _ (id-is own) _ (c .stored-next .ensures)
 
 number-requires : tie.Need-number-requires
 number-requires c κs = search needs
@@ -50,13 +70,11 @@ same-length c = search needs
 returns : tie.Need-returns
 returns c = let x = c .before .before in
     let t = x .before .before .before .before in
-    let i = t .before .before in
-    let n = i .before .before in
-    row-shape _ _ _ _ _ _ (n .number .ensures) (compared _ _ _ _ (i .before .same .ensures) (rd-at _ (n .number .ok)) refl ∙ i .if1 .taken) _ (t .before .before .before .before .before .before .pre .1) _ _ (t .stored-next .ensures) _ (there t .there) _ _ (x .expand-shape .ensures)
+    row-shape _ _ _ _ _ _ (own t .before .before .before .number .ensures) (is-shape t) _ (walked t) _ (there t .there) _ _ (x .expand-shape .ensures)
 
 returns-2 : tie.Need-returns-2
 returns-2 c = let n = c .before .before in
-    row-other _ _ _ _ _ _ (n .number .ensures) (compared _ _ _ _ (c .before .same .ensures) (rd-at _ (n .number .ok)) refl ∙ c .if1 .left) _ (n .before .before .pre .1)
+    row-other _ _ _ _ _ _ (n .number .ensures) (compared _ _ _ _ (c .before .same .ensures) (rd-at _ (n .number .ok)) refl ∙ c .if1 .left) _ (n .before .before .pre .1 .0)
 
 pub expand-row-spec : {M : Type 1} → statement M
 expand-row-spec =

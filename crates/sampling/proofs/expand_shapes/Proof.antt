@@ -3,7 +3,7 @@ use Prim.Native.Nat.{_-_}
 use mathlib.Core.Path.{_∙_}
 use native.Mathlib.Omega.{arith}
 use borrow.Author.Needs.{needs}
-use Rattle.sampling.proofs.Laying.{Expanding, expanding-start, expanding-fails, expanding-turn, expanding-end}
+use Rattle.sampling.proofs.Laying.{is-new, Expanding, expanding-start, expanding-fails, expanding-turn, expanding-end}
 use Rattle.sampling.proofs.expand_shapes.Statement.{statement}
 use Rattle.sampling.proofs.expand_shapes.Tie as tie
 
@@ -17,10 +17,11 @@ walk-start-requires : tie.Need-walk-start-requires Inv-loop μ-loop
 walk-start-requires c κs = search needs
 
 loop-holds : tie.Need-loop-holds Inv-loop μ-loop
-loop-holds c = expanding-start _ _ _ _ (c .before .before .pre) _ _ (c .walk-start .ensures)
+loop-holds c = expanding-start _ _ _ _ (c .before .before .pre .0) _ _ (c .walk-start .ensures)
 
 expand-row-requires : tie.Need-expand-row-requires Inv-loop μ-loop
-expand-row-requires c κs = (c .before .before .before .before .before .pre, c .before .before .loop .inv .walked)
+expand-row-requires c κs = let s = c .before .before .before .before .before in
+    (s .pre .0, (c .before .before .loop .inv .walked, is-new _ _ (s .pre .1) _ (c .before .loop-test .taken)))
 
 same-length : tie.Need-same-length Inv-loop μ-loop
 same-length c = let x = c .before .before in x .expand-row .kept .1 .1 .1 .1 .1 .0 ∙ x .before .before .before .loop .inv .long

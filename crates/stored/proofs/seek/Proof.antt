@@ -9,17 +9,17 @@ use mir.Syntax.{w64}
 use mir.Val.{toZ, ofZ}
 use Rattle.text.proofs.Cut.{LineAt, line-at, WholeAt, whole-at}
 use Rattle.signed.proofs.Machine.{rd-at, rd-is}
-use Rattle.stored.specs.Inside.{mostOf, soughtOf}
+use Rattle.stored.specs.Inside.{soughtOf}
 use Rattle.stored.proofs.Seeking.{Seeking, seek-pass, seek-hit, seek-turn, seek-end, passed-is}
 use borrow.Author.Needs.{needs}
 use Rattle.stored.proofs.seek.Statement.{statement}
 use Rattle.stored.proofs.seek.Tie as tie
 
 abbrev Inv-loop : tie.InvT-loop
-Inv-loop file id from walk = Seeking file (toZ w64 id) from walk
+Inv-loop file any id from walk = Seeking file any (toZ w64 id) from walk
 
 abbrev μ-loop : tie.MeasureT-loop
-μ-loop file id from walk = length file - walk .at
+μ-loop file any id from walk = length file - walk .at
 
 -- the line that starts here
 here : (c : tie.After-next-line Inv-loop μ-loop) → LineAt (now (c .before .before .before .before .before .before .before .args .file)) (c .before .before .before .before .before .loop .walk .at) (c .next-line .result)
@@ -27,10 +27,6 @@ here c = line-at _ _ _ (c .next-line .ensures) (omega arith)
 
 whole : (c : tie.After-next-line Inv-loop μ-loop) → WholeAt (now (c .before .before .before .before .before .before .before .args .file)) (c .before .before .before .before .before .loop .walk .at) (c .next-line .result)
 whole c = whole-at _ _ _ (c .next-line .ensures) (omega arith)
-
--- the greatest ID of the shapes passed, behind it
-most-is : (c : tie.After-most-passed Inv-loop μ-loop) → toZ w64 (ofZ w64 (c .most-passed .result)) ≡ mostOf (c .before .before .before .before .before .before .before .before .before .before .before .before .before .loop .walk .most) (c .before .before .before .step .result)
-most-is c = rd-at _ (c .most-passed .ok) ∙ c .most-passed .ensures ∙ ap (λ (z : ℤ). mostOf z (c .before .before .before .step .result)) (rd-at (c .before .before .before .before .before .before .before .before .before .before .before .before .before .loop .walk .most) (search needs))
 
 loop-holds : tie.Need-loop-holds Inv-loop μ-loop
 loop-holds c = record { lines = c .before .pre .0; sound = c .before .pre .1; same = refl }
@@ -57,7 +53,7 @@ loop-less : tie.Need-loop-less Inv-loop μ-loop
 loop-less c = let l = c .before .before .before in omega (arith, here l .further, here l .inside)
 
 loop-again : tie.Need-loop-again Inv-loop μ-loop
-loop-again c = let l = c .before .before .before in seek-pass _ _ _ _ (l .before .before .before .before .before .loop .inv) _ (here l) (whole l) (sym (c .before .passes .ensures) ∙ c .if2 .taken)
+loop-again c = let l = c .before .before .before in seek-pass _ _ _ _ _ (l .before .before .before .before .before .loop .inv) _ (here l) (whole l) (sym (c .before .passes .ensures) ∙ c .if2 .taken)
 
 sub-step : tie.Need-sub-step Inv-loop μ-loop
 sub-step c = here (c .before .before .before) .ordered
@@ -71,32 +67,32 @@ part-step-end c = here (c .before .before .before) .within
 step-requires : tie.Need-step-requires Inv-loop μ-loop
 step-requires c κs = search needs
 
-most-passed-requires : tie.Need-most-passed-requires Inv-loop μ-loop
-most-passed-requires c κs = search needs
-
-is-shape-requires : tie.Need-is-shape-requires Inv-loop μ-loop
-is-shape-requires c κs = search needs
+is-wanted-requires : tie.Need-is-wanted-requires Inv-loop μ-loop
+is-wanted-requires c κs = search needs
 
 stored-end-requires : tie.Need-stored-end-requires Inv-loop μ-loop
 stored-end-requires c κs = search needs
 
+element-copy-out-own : tie.Need-element-copy-out-own Inv-loop μ-loop
+element-copy-out-own c = search needs
+
 returns : tie.Need-returns Inv-loop μ-loop
-returns c = let m = c .before .before .before in
-    let s = m .before .before .before in
+returns c = let w = c .before .before .before in
+    let s = w .before .before in
     let l = s .before .before .before .before .before in
-    seek-hit _ _ _ _ (l .before .before .before .before .before .loop .inv) _ (here l) (whole l) _ (s .step .ensures) _ (passed-is _ _ _ _ (most-is m)) (sym (c .before .before .is-shape .ensures) ∙ c .before .if3 .taken) _ (c .stored-end .ensures) ∙ ap (soughtOf _ _) (rd-is (l .before .before .before .before .before .before .before .fits .id))
+    seek-hit _ _ _ _ _ (l .before .before .before .before .before .loop .inv) _ (here l) (whole l) _ (s .step .ensures) _ (passed-is _ _ _) (sym (w .is-wanted .ensures) ∙ c .before .before .if3 .taken) _ (c .before .stored-end .ensures) _ (rd-at _ (c .own .given))
+    ∙ ap (soughtOf _ _ _) (rd-is (l .before .before .before .before .before .before .before .fits .id))
 
 loop-less-2 : tie.Need-loop-less-2 Inv-loop μ-loop
-loop-less-2 c = let l = c .before .before .before .before .before .before .before .before .before .before in omega (arith, here l .further, here l .inside)
+loop-less-2 c = let l = c .before .before .before .before .before .before .before .before in omega (arith, here l .further, here l .inside)
 
 loop-again-2 : tie.Need-loop-again-2 Inv-loop μ-loop
-loop-again-2 c = let m = c .before .before in
-    let s = m .before .before .before in
+loop-again-2 c = let s = c .before .before .before in
     let l = s .before .before .before .before .before in
-    seek-turn _ _ _ _ (l .before .before .before .before .before .loop .inv) _ (here l) (whole l) _ (s .step .ensures) _ (passed-is _ _ _ _ (most-is m)) (sym (c .before .is-shape .ensures) ∙ c .if3 .left)
+    seek-turn _ _ _ _ _ (l .before .before .before .before .before .loop .inv) _ (here l) (whole l) _ (s .step .ensures) _ (passed-is _ _ _) (sym (c .before .is-wanted .ensures) ∙ c .if3 .left)
 
 returns-2 : tie.Need-returns-2 Inv-loop μ-loop
-returns-2 c = seek-end _ _ _ _ (c .before .before .loop .inv) (c .if1 .left) ∙ ap (soughtOf _ _) (rd-is (c .before .before .before .before .fits .id))
+returns-2 c = seek-end _ _ _ _ _ (c .before .before .loop .inv) (c .if1 .left) ∙ ap (soughtOf _ _ _) (rd-is (c .before .before .before .before .fits .id))
 
 pub seek-spec : {M : Type 1} → statement M
 seek-spec =
@@ -117,9 +113,9 @@ seek-spec =
     part-step-start
     part-step-end
     step-requires
-    most-passed-requires
-    is-shape-requires
+    is-wanted-requires
     stored-end-requires
+    element-copy-out-own
     returns
     loop-less-2
     loop-again-2
