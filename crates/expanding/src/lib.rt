@@ -88,10 +88,10 @@ fn next_value(stored: &[u8], from: usize) -> Next
 {
     let mut at = from;
     while at < stored.len() {
-        let line = text::next_line(stored, at);
+        let line = text::cut_line(stored, at);
         let stop = line.stop;
         let behind = line.next;
-        match shape::line_item(&stored[at..stop]) {
+        match shape::cut_item(&stored[at..stop], line.clean) {
             Item::Value(d) => {
                 return Next::Value(d, behind);
             }

@@ -111,9 +111,9 @@ pub fn scan(file: &[u8], rows: &mut [i64]) -> Scanned
     let mut n: usize = 1;
     let mut used: usize = 0;
     while at < file.len() {
-        let line = text::next_line(file, at);
+        let line = text::cut_line(file, at);
         let stop = line.stop;
-        let did = grammar::step(st, n, &file[at..stop]);
+        let did = grammar::step_cut(st, n, &file[at..stop], line.clean);
         let found = did.found;
         if is_fault(found) {
             return answer(found, n, st, used);
@@ -137,9 +137,9 @@ pub fn row_line(file: &[u8], k: usize) -> usize
     let mut n: usize = 1;
     let mut left = k;
     while at < file.len() {
-        let line = text::next_line(file, at);
+        let line = text::cut_line(file, at);
         let stop = line.stop;
-        let did = grammar::step(st, n, &file[at..stop]);
+        let did = grammar::step_cut(st, n, &file[at..stop], line.clean);
         let found = did.found;
         if is_fault(found) {
             return 0;

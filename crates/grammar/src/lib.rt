@@ -6,8 +6,8 @@ ghost use Rattle.grammar.specs.Definitions.{valueOf, valuePart};
 ghost use Rattle.grammar.specs.Steps.{gaveOf, definedOf, blankStep, definitionStep, rowStep, labelStep, listedOf, extensionStep, listedStep, extensionsStep, headStep, countedOf, countStep, valueRow, linesStep, plainStep, stepOf};
 ghost use Rattle.shape.specs.Stored.{itemOf};
 ghost use Rattle.fields.specs.Fields.{fieldsOf};
-ghost use Rattle.text.specs.Marks.{breaksLine, markOf};
-ghost use mathlib.Core.Bool.{false};
+ghost use Rattle.text.specs.Marks.{anyControl, breaksLine, markOf};
+ghost use mathlib.Core.Bool.{false, not};
 ghost use Prim.Native.Nat.{_≤_};
 ghost use lib.ListN.{replicate};
 use columns::Form;
@@ -276,6 +276,19 @@ fn plain_step(st: State, n: usize, line: &[u8]) -> Stepped
     }
 }
 
+// Line n where a file stands, if LINE does not refuse it.
+pub fn step_clean(st: State, n: usize, line: &[u8]) -> Stepped
+    requires { ⌜ breaksLine (now line) ≡ false ⌝ }
+    ensures { λ r. ⌜ r ≡ stepOf st n (now (line .entry)) ⌝ }
+{
+    match text::mark_of(line) {
+        Mark::Comment => places::went(st),
+        Mark::Blank => blank_step(st),
+        Mark::Section => sections::section_step(st, line),
+        Mark::Plain => plain_step(st, n, line),
+    }
+}
+
 // Line n where a file stands.
 pub fn step(st: State, n: usize, line: &[u8]) -> Stepped
     ensures { λ r. ⌜ r ≡ stepOf st n (now (line .entry)) ⌝ }
@@ -283,10 +296,18 @@ pub fn step(st: State, n: usize, line: &[u8]) -> Stepped
     if text::breaks_line(line) {
         return places::refused(st, Fault::Line);
     }
-    match text::mark_of(line) {
-        Mark::Comment => places::went(st),
-        Mark::Blank => blank_step(st),
-        Mark::Section => sections::section_step(st, line),
-        Mark::Plain => plain_step(st, n, line),
+    step_clean(st, n, line)
+}
+
+// Line n where a file stands, which was cut off and found clean or not.
+pub fn step_cut(st: State, n: usize, line: &[u8], clean: bool) -> Stepped
+    requires { ⌜ clean ≡ not (anyControl (now line)) ⌝ }
+    ensures { λ r. ⌜ r ≡ stepOf st n (now (line .entry)) ⌝ }
+{
+    if clean {
+        if line.len() <= 1024 {
+            return step_clean(st, n, line);
+        }
     }
+    step(st, n, line)
 }

@@ -1,6 +1,8 @@
 // The parts of a shape: the editions, what a stored line holds, how many values the lines hold, whether these are the samples themselves, the
 // sample that a value makes of the sum so far, and what expanding can answer.
+ghost use mathlib.Core.Bool.{false, not};
 ghost use mathlib.Core.Path.{_≡_};
+ghost use Rattle.text.specs.Marks.{anyControl, breaksLine};
 ghost use Rattle.fields.specs.Fields.{fieldsOf};
 ghost use Rattle.shape.specs.Stored.{fieldsItem, itemOf, countOf};
 ghost use Rattle.shape.specs.Samples.{addOf, isPlain};
@@ -84,19 +86,40 @@ pub fn plain_item(line: &[u8]) -> Item
     }
 }
 
-// What a stored line holds: a comment is skipped, and anything else that is not one decimal is at fault.
-pub fn line_item(line: &[u8]) -> Item
+// What a stored line holds that LINE does not refuse: a comment is skipped, and anything else that is not one decimal is at fault.
+pub fn clean_item(line: &[u8]) -> Item
+    requires { ⌜ breaksLine (now line) ≡ false ⌝ }
     ensures { λ r. ⌜ r ≡ itemOf (now (line .entry)) ⌝ }
 {
-    if text::breaks_line(line) {
-        return Item::Bad;
-    }
     match text::mark_of(line) {
         Mark::Comment => Item::Skipped,
         Mark::Plain => plain_item(line),
         Mark::Blank => Item::Bad,
         Mark::Section => Item::Bad,
     }
+}
+
+// What a stored line holds.
+pub fn line_item(line: &[u8]) -> Item
+    ensures { λ r. ⌜ r ≡ itemOf (now (line .entry)) ⌝ }
+{
+    if text::breaks_line(line) {
+        return Item::Bad;
+    }
+    clean_item(line)
+}
+
+// What a stored line holds that was cut off and found clean or not.
+pub fn cut_item(line: &[u8], clean: bool) -> Item
+    requires { ⌜ clean ≡ not (anyControl (now line)) ⌝ }
+    ensures { λ r. ⌜ r ≡ itemOf (now (line .entry)) ⌝ }
+{
+    if clean {
+        if line.len() <= 1024 {
+            return clean_item(line);
+        }
+    }
+    line_item(line)
 }
 
 // How many values the lines hold, if none is at fault.
@@ -106,10 +129,10 @@ pub fn count_values(stored: &[u8]) -> Count
     let mut at = 0;
     let mut n = 0;
     while at < stored.len() {
-        let line = text::next_line(stored, at);
+        let line = text::cut_line(stored, at);
         let stop = line.stop;
         let behind = line.next;
-        match line_item(&stored[at..stop]) {
+        match cut_item(&stored[at..stop], line.clean) {
             Item::Value(_) => {
                 n += 1;
                 at = behind;

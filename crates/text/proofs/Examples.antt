@@ -2,8 +2,8 @@
 use mathlib.Core.Path.{_≡_, refl}
 use mathlib.Core.Bool.{true, false}
 use mathlib.Core.List.{[], _∷_}
-use Rattle.text.specs.Lines.{startsLF, onto, linesOf, wholeLinesOf}
-use Rattle.text.specs.Marks.{isBlank, markOf, isComment, isControl, anyControl, breaksLine}
+use Rattle.text.specs.Lines.{startsLF, onto, linesOf, wholeLinesOf, bareLen, passLen, bareOf, lineAt}
+use Rattle.text.specs.Marks.{isBlank, markOf, isComment, isControl, anyControl, breaksLine, cutAt}
 
 -- 'a\r\n\nb': a CR before an LF belongs to the end, an empty line counts, the last line needs no LF
 lines-ends : linesOf (97 ∷ 13 ∷ 10 ∷ 10 ∷ 98 ∷ []) ≡ (97 ∷ []) ∷ [] ∷ (98 ∷ []) ∷ []
@@ -44,3 +44,12 @@ breaks-127 = refl
 breaks-comment : breaksLine (32 ∷ 35 ∷ 127 ∷ []) ≡ false
 unfolding isBlank markOf isComment isControl anyControl breaksLine
 breaks-comment = refl
+
+-- 'a\t\r\n': a tab is allowed, and the CR is of the end; 'a\rb\n': this one is not
+cut-clean : cutAt (97 ∷ 9 ∷ 13 ∷ 10 ∷ []) 0 ≡ record { stop = 2; next = 4; clean = true }
+unfolding startsLF bareLen passLen bareOf lineAt isControl anyControl cutAt
+cut-clean = refl
+
+cut-unclean : cutAt (97 ∷ 13 ∷ 98 ∷ 10 ∷ []) 0 ≡ record { stop = 3; next = 4; clean = false }
+unfolding startsLF bareLen passLen bareOf lineAt isControl anyControl cutAt
+cut-unclean = refl

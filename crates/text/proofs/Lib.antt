@@ -2,6 +2,7 @@
 pub mod Cases
 pub mod Places
 pub mod Cut
+pub mod Clean
 pub mod Blanks
 pub mod Marks
 pub mod Lines

@@ -1,9 +1,9 @@
 -- What the tests of mark_of and breaks_line say of a line. Assumes nothing.
 use Prim.Native.Nat.{ℕ, suc, _≤_, _<_}
-use mathlib.Core.Bool.{Bool, true, false, cond}
+use mathlib.Core.Bool.{Bool, true, false, cond, not, and-false}
 use mathlib.Core.List.{List, [], _∷_}
 use mathlib.Core.Path.{_≡_, refl, sym, ap, _∙_}
-use borrow.Author.Tests.{eq-eqb, ne-eqb, lt-ltb, le-ltb}
+use borrow.Author.Tests.{eq-eqb, ne-eqb, lt-ltb, le-ltb, not-true}
 use lib.ListN.{length, getD, drop, drop-of-length-le}
 use lib.Seq.{drop-cons}
 use Rattle.text.specs.Marks.{isBlank, markOf, isComment, anyControl, breaksLine}
@@ -54,11 +54,17 @@ module _ (line : List ℕ) where
   unfolding breaksLine
   breaks-long h = rw (lt-ltb 1024 (length line) h)
 
-  module _ (h : length line ≤ 1024) (m : Mark) (e : m ≡ markOf line) where
-    pub breaks-comment : m ≡ Comment → false ≡ breaksLine line
-    unfolding breaksLine isComment
-    breaks-comment f = rw (le-ltb 1024 (length line) h, ← e, f)
-
-    pub breaks-other : (k : Mark) → m ≡ k → isComment k ≡ false → anyControl line ≡ breaksLine line
+  module _ (h : length line ≤ 1024) where
+    -- a short clean line
+    pub breaks-clean : (clean : Bool) → clean ≡ not (anyControl line) → clean ≡ true → breaksLine line ≡ false
     unfolding breaksLine
-    breaks-other k f n = rw (le-ltb 1024 (length line) h, ← e, f, n)
+    breaks-clean clean e f = rw (le-ltb 1024 (length line) h, not-true (anyControl line) (sym e ∙ f), and-false)
+
+    module _ (m : Mark) (e : m ≡ markOf line) where
+      pub breaks-comment : m ≡ Comment → false ≡ breaksLine line
+      unfolding breaksLine isComment
+      breaks-comment f = rw (le-ltb 1024 (length line) h, ← e, f)
+
+      pub breaks-other : (k : Mark) → m ≡ k → isComment k ≡ false → anyControl line ≡ breaksLine line
+      unfolding breaksLine
+      breaks-other k f n = rw (le-ltb 1024 (length line) h, ← e, f, n)

@@ -36,7 +36,7 @@ module _ (text : List ℕ) (i : ℕ) where
   unfolding startsLF
   feed-at h = rw (drop-cons text i 0)
 
-  line-none : length text ≤ i → _≡_ {A = Line} (record { stop = i; next = i }) (lineAt text i)
+  pub line-none : length text ≤ i → _≡_ {A = Line} (record { stop = i; next = i }) (lineAt text i)
   unfolding bareLen passLen
   line-none h = line-is text i i i (rw (drop-of-length-le text h, add-zero)) (rw (drop-of-length-le text h, add-zero))
 
@@ -65,7 +65,7 @@ module _ (text : List ℕ) (i : ℕ) where
           let q = pass-more in
           line-is text i i (i + 2) (omega arith) (omega arith)
 
-      line-more : eqb (getD text i 0) 13 && startsLF (drop (i + 1) text) ≡ false → lineAt text (i + 1) ≡ lineAt text i
+      pub line-more : eqb (getD text i 0) 13 && startsLF (drop (i + 1) text) ≡ false → lineAt text (i + 1) ≡ lineAt text i
       unfolding lineAt
       line-more e =
           let b = bare-more e in

@@ -3,7 +3,9 @@ use Prim.Native.Nat.{ℕ}
 use mathlib.Core.Bool.{Bool, true, false, cond, not, _&&_, _||_}
 use mathlib.Core.List.{List, [], _∷_}
 use lib.Dec.{eqb, leb, ltb}
-use lib.ListN.{length}
+use lib.ListN.{length, drop}
+use Rattle.text.specs.Lines.{bareOf, lineAt}
+use Rattle.text.specs.declared.Piece.{Piece}
 use Rattle.text.specs.declared.Mark.{Mark}
 use Rattle.text.specs.declared.Mark.the-variants.{Blank, Comment, Section, Plain}
 
@@ -32,3 +34,7 @@ anyControl (b ∷ s) = isControl b || anyControl s
 
 unfoldable pub breaksLine : List ℕ → Bool
 breaksLine line = ltb 1024 (length line) || (not (isComment (markOf line)) && anyControl line)
+
+-- ---- the line that starts at a place, and whether no such byte stands in it
+unfoldable pub cutAt : List ℕ → ℕ → Piece
+cutAt text at = record { stop = lineAt text at .stop; next = lineAt text at .next; clean = not (anyControl (bareOf (drop at text))) }

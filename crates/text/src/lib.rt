@@ -1,8 +1,11 @@
 // Texts: their lines, what kind of line one is, whether it may stand in a file, and whether two texts are the same.
 // Everything is a place in a slice: nothing is copied.
+ghost use Prim.Native.Nat.{_<_};
+ghost use mathlib.Core.Bool.{true};
 ghost use mathlib.Core.Path.{_≡_};
+ghost use lib.ListN.{length, getD};
 ghost use Rattle.text.specs.Lines.{lineAt};
-ghost use Rattle.text.specs.Marks.{isBlank, markOf, isControl, anyControl, breaksLine};
+ghost use Rattle.text.specs.Marks.{isBlank, markOf, isControl, anyControl, breaksLine, cutAt};
 ghost use Rattle.text.specs.Blanks.{skipped};
 ghost use Rattle.text.specs.Words.{sameBytes};
 
@@ -10,6 +13,13 @@ ghost use Rattle.text.specs.Words.{sameBytes};
 pub struct Line {
     pub stop: usize,
     pub next: usize,
+}
+
+// The same, and whether the line holds no byte that only a comment may hold.
+pub struct Piece {
+    pub stop: usize,
+    pub next: usize,
+    pub clean: bool,
 }
 
 // What a line is by its first nonblank byte.
@@ -112,6 +122,44 @@ fn has_control(line: &[u8]) -> bool
         i += 1;
     }
     false
+}
+
+// The line that starts at a control byte: it is clean if that byte is of its end.
+fn cut_control(text: &[u8], at: usize) -> Piece
+    requires { ⌜ at < length (now text) ⌝ }
+    requires { ⌜ isControl (getD (now text) at 0) ≡ true ⌝ }
+    ensures { λ r. ⌜ r ≡ cutAt (now (text .entry)) at ⌝ }
+{
+    let line = next_line(text, at);
+    Piece {
+        stop: line.stop,
+        next: line.next,
+        clean: line.stop == at,
+    }
+}
+
+// The line that starts at `at`, as next_line finds it, and whether it is clean, in one walk.
+pub fn cut_line(text: &[u8], at: usize) -> Piece
+    ensures { λ r. ⌜ r ≡ cutAt (now (text .entry)) at ⌝ }
+{
+    let mut i = at;
+    while i < text.len() {
+        let b = text[i];
+        if b < 32 {
+            if b != 9 {
+                return cut_control(text, i);
+            }
+        }
+        if b == 127 {
+            return cut_control(text, i);
+        }
+        i += 1;
+    }
+    Piece {
+        stop: i,
+        next: i,
+        clean: true,
+    }
 }
 
 // Is this line refused by LINE?

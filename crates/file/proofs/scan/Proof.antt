@@ -4,7 +4,8 @@ use mathlib.Core.Path.{sym, _∙_}
 use native.Mathlib.Omega.{arith}
 use denote.Ref.{now}
 use lib.ListN.{length}
-use Rattle.text.proofs.Cut.{LineAt, line-at}
+use Rattle.text.proofs.Cut.{LineAt}
+use Rattle.text.proofs.Clean.{lineOf, cut-at, cut-clean}
 use Rattle.file.proofs.Reading.{ScanWalk, scan-start, scan-fault, scan-turn, scan-end}
 use Rattle.file.proofs.Laying.{count-is, count-most}
 use mathlib.Core.List.{[]}
@@ -19,8 +20,8 @@ abbrev μ-loop : tie.MeasureT-loop
 μ-loop file rows₀ st₀ at₀ n₀ used₀ rows st at n used = length file - at
 
 -- the line that starts here
-here : (c : tie.After-next-line Inv-loop μ-loop) → LineAt (now (c .before .before .before .before .before .args .file)) (c .before .before .loop .at) (c .next-line .result)
-here c = line-at _ _ _ (c .next-line .ensures) (omega arith)
+here : (c : tie.After-cut-line Inv-loop μ-loop) → LineAt (now (c .before .before .before .before .before .args .file)) (c .before .before .loop .at) (lineOf (c .cut-line .result))
+here c = cut-at _ _ _ (c .cut-line .ensures) (omega arith)
 
 start-requires : tie.Need-start-requires Inv-loop μ-loop
 start-requires c κs = search needs
@@ -28,20 +29,20 @@ start-requires c κs = search needs
 loop-holds : tie.Need-loop-holds Inv-loop μ-loop
 loop-holds c = scan-start _ _ _ (c .start .ensures)
 
-next-line-requires : tie.Need-next-line-requires Inv-loop μ-loop
-next-line-requires c κs = search needs
+cut-line-requires : tie.Need-cut-line-requires Inv-loop μ-loop
+cut-line-requires c κs = search needs
 
-sub-step : tie.Need-sub-step Inv-loop μ-loop
-sub-step c = here c .ordered
+sub-step-cut : tie.Need-sub-step-cut Inv-loop μ-loop
+sub-step-cut c = here c .ordered
 
-part-step-start : tie.Need-part-step-start Inv-loop μ-loop
-part-step-start c = here c .ordered
+part-step-cut-start : tie.Need-part-step-cut-start Inv-loop μ-loop
+part-step-cut-start c = here c .ordered
 
-part-step-end : tie.Need-part-step-end Inv-loop μ-loop
-part-step-end c = here c .within
+part-step-cut-end : tie.Need-part-step-cut-end Inv-loop μ-loop
+part-step-cut-end c = here c .within
 
-step-requires : tie.Need-step-requires Inv-loop μ-loop
-step-requires c κs = search needs
+step-cut-requires : tie.Need-step-cut-requires Inv-loop μ-loop
+step-cut-requires c κs = cut-clean _ _ _ (c .before .cut-line .ensures)
 
 is-fault-requires : tie.Need-is-fault-requires Inv-loop μ-loop
 is-fault-requires c κs = search needs
@@ -55,7 +56,7 @@ same-length c = c .before .before .before .before .before .before .before .loop 
 returns : tie.Need-returns Inv-loop μ-loop
 returns c = let s = c .before .before .before in
     let l = s .before .before in
-    scan-fault _ _ _ _ _ _ _ (l .before .before .loop .inv) _ (here l) _ (s .step .ensures) (sym (c .before .before .is-fault .ensures) ∙ c .before .if1 .taken) _ (c .answer .ensures)
+    scan-fault _ _ _ _ _ _ _ (l .before .before .loop .inv) _ (here l) _ (s .step-cut .ensures) (sym (c .before .before .is-fault .ensures) ∙ c .before .if1 .taken) _ (c .answer .ensures)
 
 lay-found-requires : tie.Need-lay-found-requires Inv-loop μ-loop
 lay-found-requires c κs = search needs
@@ -65,7 +66,7 @@ add-used c = let f = c .before in
     let s = f .before .before .before .before in
     let l = s .before .before in
     let m = f .lay-found .ensures .count ∙ count-is 0 [] _ in
-    omega (arith, l .before .before .loop .inv .few, here l .further, here l .inside, l .before .before .before .before .before .good .0 .0, m, count-most (s .step .result .found))
+    omega (arith, l .before .before .loop .inv .few, here l .further, here l .inside, l .before .before .before .before .before .good .0 .0, m, count-most (s .step-cut .result .found))
 
 add-n : tie.Need-add-n Inv-loop μ-loop
 add-n c = let l = c .before .before .before .before .before .before .before in
@@ -79,7 +80,7 @@ loop-again c = let f = c .before .before in
     let e = f .before .before in
     let s = e .before .before in
     let l = s .before .before in
-    scan-turn _ _ _ _ _ _ _ (l .before .before .loop .inv) _ (here l) _ (s .step .ensures) (sym (e .before .is-fault .ensures) ∙ e .if1 .left) _ _ (f .lay-found .ensures)
+    scan-turn _ _ _ _ _ _ _ (l .before .before .loop .inv) _ (here l) _ (s .step-cut .ensures) (sym (e .before .is-fault .ensures) ∙ e .if1 .left) _ _ (f .lay-found .ensures)
 
 ending-requires : tie.Need-ending-requires Inv-loop μ-loop
 ending-requires c κs = search needs
@@ -101,11 +102,11 @@ scan-spec =
     μ-loop
     start-requires
     loop-holds
-    next-line-requires
-    sub-step
-    part-step-start
-    part-step-end
-    step-requires
+    cut-line-requires
+    sub-step-cut
+    part-step-cut-start
+    part-step-cut-end
+    step-cut-requires
     is-fault-requires
     answer-requires
     same-length

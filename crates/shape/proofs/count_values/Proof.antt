@@ -4,7 +4,8 @@ use lib.ListN.{length}
 use native.Mathlib.Omega.{arith}
 use mathlib.Core.Path.{sym, _∙_}
 use denote.Ref.{now}
-use Rattle.text.proofs.Cut.{LineAt, line-at}
+use Rattle.text.proofs.Cut.{LineAt}
+use Rattle.text.proofs.Clean.{lineOf, cut-at, cut-clean}
 use Rattle.shape.proofs.Counting.{Counting, counting-start, counting-end, counting-value, counting-skipped, counting-faulty}
 use borrow.Author.Needs.{needs}
 use Rattle.shape.proofs.count_values.Statement.{statement}
@@ -17,26 +18,26 @@ abbrev μ-loop : tie.MeasureT-loop
 μ-loop stored at₀ n₀ at n = length stored - at
 
 -- the line that starts here
-here : (c : tie.After-next-line Inv-loop μ-loop) → LineAt (now (c .before .before .before .before .args .stored)) (c .before .before .loop .at) (c .next-line .result)
-here c = line-at _ _ _ (c .next-line .ensures) (omega arith)
+here : (c : tie.After-cut-line Inv-loop μ-loop) → LineAt (now (c .before .before .before .before .args .stored)) (c .before .before .loop .at) (lineOf (c .cut-line .result))
+here c = cut-at _ _ _ (c .cut-line .ensures) (omega arith)
 
 loop-holds : tie.Need-loop-holds Inv-loop μ-loop
 loop-holds c = counting-start _
 
-next-line-requires : tie.Need-next-line-requires Inv-loop μ-loop
-next-line-requires c κs = search needs
+cut-line-requires : tie.Need-cut-line-requires Inv-loop μ-loop
+cut-line-requires c κs = search needs
 
-sub-line-item : tie.Need-sub-line-item Inv-loop μ-loop
-sub-line-item c = here c .ordered
+sub-cut-item : tie.Need-sub-cut-item Inv-loop μ-loop
+sub-cut-item c = here c .ordered
 
-part-line-item-start : tie.Need-part-line-item-start Inv-loop μ-loop
-part-line-item-start c = here c .ordered
+part-cut-item-start : tie.Need-part-cut-item-start Inv-loop μ-loop
+part-cut-item-start c = here c .ordered
 
-part-line-item-end : tie.Need-part-line-item-end Inv-loop μ-loop
-part-line-item-end c = here c .within
+part-cut-item-end : tie.Need-part-cut-item-end Inv-loop μ-loop
+part-cut-item-end c = here c .within
 
-line-item-requires : tie.Need-line-item-requires Inv-loop μ-loop
-line-item-requires c κs = search needs
+cut-item-requires : tie.Need-cut-item-requires Inv-loop μ-loop
+cut-item-requires c κs = cut-clean _ _ _ (c .before .cut-line .ensures)
 
 enum-told : tie.Need-enum-told Inv-loop μ-loop
 enum-told c = search needs
@@ -49,7 +50,7 @@ loop-less c = let l = here (c .before .before .before .before) in omega (arith, 
 
 loop-again : tie.Need-loop-again Inv-loop μ-loop
 loop-again c = let n = c .before .before .before .before in
-    counting-value (n .before .before .loop .inv) (here n) (sym (c .before .before .line-item .ensures) ∙ c .enum-told .given .1)
+    counting-value (n .before .before .loop .inv) (here n) (sym (c .before .before .cut-item .ensures) ∙ c .enum-told .given .1)
 
 enum-told-2 : tie.Need-enum-told-2 Inv-loop μ-loop
 enum-told-2 c = search needs
@@ -59,14 +60,14 @@ loop-less-2 c = let l = here (c .before .before .before .before) in omega (arith
 
 loop-again-2 : tie.Need-loop-again-2 Inv-loop μ-loop
 loop-again-2 c = let n = c .before .before .before .before in
-    counting-skipped (n .before .before .loop .inv) (here n) (sym (c .before .before .line-item .ensures) ∙ c .enum-told2 .given .1)
+    counting-skipped (n .before .before .loop .inv) (here n) (sym (c .before .before .cut-item .ensures) ∙ c .enum-told2 .given .1)
 
 enum-told-3 : tie.Need-enum-told-3 Inv-loop μ-loop
 enum-told-3 c = search needs
 
 returns : tie.Need-returns Inv-loop μ-loop
 returns c = let n = c .before .before .before .before in
-    counting-faulty (n .before .before .loop .inv) (here n) (sym (c .before .before .line-item .ensures) ∙ c .enum-told3 .given .1)
+    counting-faulty (n .before .before .loop .inv) (here n) (sym (c .before .before .cut-item .ensures) ∙ c .enum-told3 .given .1)
 
 returns-2 : tie.Need-returns-2 Inv-loop μ-loop
 returns-2 c = counting-end (c .before .loop .inv) (omega arith)
@@ -78,11 +79,11 @@ count-values-spec =
     Inv-loop
     μ-loop
     loop-holds
-    next-line-requires
-    sub-line-item
-    part-line-item-start
-    part-line-item-end
-    line-item-requires
+    cut-line-requires
+    sub-cut-item
+    part-cut-item-start
+    part-cut-item-end
+    cut-item-requires
     enum-told
     add-n
     loop-less

@@ -1,8 +1,6 @@
--- `shape::line_item` meets its contract. By cases on the mark. Assumes nothing.
+-- `shape::line_item` meets its contract: LINE first. Assumes nothing.
 use mathlib.Core.Path.{sym, _∙_}
-use Rattle.text.specs.declared.Mark.the-variants.{Blank, Comment, Section}
-use Rattle.shape.specs.Stored.{markItem}
-use Rattle.shape.proofs.Items.{item-broken, item-marked, item-plain}
+use Rattle.shape.proofs.Items.{item-broken}
 use borrow.Author.Needs.{needs}
 use Rattle.shape.proofs.line_item.Statement.{statement}
 use Rattle.shape.proofs.line_item.Tie as tie
@@ -13,56 +11,11 @@ breaks-line-requires c κs = search needs
 returns : tie.Need-returns
 returns c = item-broken _ (sym (c .before .breaks-line .ensures) ∙ c .if1 .taken)
 
-mark-of-requires : tie.Need-mark-of-requires
-mark-of-requires c κs = search needs
-
-enum-told : tie.Need-enum-told
-enum-told c = search needs
-
-enum-told-2 : tie.Need-enum-told-2
-enum-told-2 c = search needs
-
-plain-item-requires : tie.Need-plain-item-requires
-plain-item-requires c κs = search needs
-
-enum-told-3 : tie.Need-enum-told-3
-enum-told-3 c = search needs
-
-enum-told-4 : tie.Need-enum-told-4
-enum-told-4 c = search needs
+clean-item-requires : tie.Need-clean-item-requires
+clean-item-requires c κs = sym (c .before .breaks-line .ensures) ∙ c .if1 .left
 
 returns-2 : tie.Need-returns-2
-unfolding markItem
-returns-2 c = let m = c .before .before in
-    item-marked _ (sym (m .before .before .breaks-line .ensures) ∙ m .before .if1 .left) Comment (sym (m .mark-of .ensures) ∙ c .enum-told .given .1)
-
-returns-3 : tie.Need-returns-3
-returns-3 c = let m = c .before .before .before in
-    c .plain-item .ensures ∙ sym (item-plain _ (sym (m .before .before .breaks-line .ensures) ∙ m .before .if1 .left) (sym (m .mark-of .ensures) ∙ c .before .enum-told2 .given .1))
-
-returns-4 : tie.Need-returns-4
-unfolding markItem
-returns-4 c = let m = c .before .before in
-    item-marked _ (sym (m .before .before .breaks-line .ensures) ∙ m .before .if1 .left) Blank (sym (m .mark-of .ensures) ∙ c .enum-told3 .given .1)
-
-returns-5 : tie.Need-returns-5
-unfolding markItem
-returns-5 c = let m = c .before .before in
-    item-marked _ (sym (m .before .before .breaks-line .ensures) ∙ m .before .if1 .left) Section (sym (m .mark-of .ensures) ∙ c .enum-told4 .given .1)
+returns-2 c = c .clean-item .ensures
 
 pub line-item-spec : {M : Type 1} → statement M
-line-item-spec =
-    tie.close
-    (tie.spec
-    breaks-line-requires
-    returns
-    mark-of-requires
-    enum-told
-    enum-told-2
-    plain-item-requires
-    enum-told-3
-    enum-told-4
-    returns-2
-    returns-3
-    returns-4
-    returns-5)
+line-item-spec = tie.close (tie.spec breaks-line-requires returns clean-item-requires returns-2)
