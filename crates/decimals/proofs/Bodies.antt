@@ -13,7 +13,7 @@ use Rattle.signed.specs.Signed.{signedOf}
 use Rattle.signed.proofs.Difference.{sub-same, sub-add, sub-pos, sub-neg-pos, sub-abs}
 use Rattle.signed.proofs.Sign.{size-signed}
 use Rattle.numeral.specs.Digits.{valueOf, isMinus, unsigned}
-use Rattle.decimals.specs.Decimal.{upTo, fraction, digits, isMantissa, mantissaPart, exponentPart, isExponent, exponentOf, stripFrom, kept, inLimits, isUnsigned, keptOf, decimalOf}
+use Rattle.decimals.specs.Decimal.{fraction, digits, isMantissa, mantissaPart, exponentPart, isExponent, exponentOf, stripFrom, kept, inLimits, isUnsigned, keptOf, decimalOf}
 use Rattle.decimals.specs.Inside.{large, mantissaOf, powerOf, pairOf, joined, bodyOf}
 use Rattle.numeral.specs.declared.Decimal.{Decimal}
 use Rattle.decimals.specs.declared.Mantissa.{Mantissa}
@@ -24,7 +24,7 @@ use Rattle.decimals.specs.declared.Number.{Number}
 use Rattle.decimals.specs.declared.Number.the-variants.{Value, Bad}
 use Rattle.text.proofs.Cases.{true-or-false, lt-or-ge, eq-or-ne}
 use Rattle.numeral.proofs.Parts.{tail-part}
-use Rattle.decimals.proofs.Parts.{upTo-take}
+use Rattle.decimals.proofs.Mantissas.{mantissa-inv}
 use Rattle.decimals.proofs.Zeros.{strip-nothing, strip-some}
 use Rattle.decimals.proofs.Powers.{power-inv, power-bad}
 
@@ -108,7 +108,7 @@ module _ (negative : Bool) (m : List ℕ) (x : ℤ) (s : ℕ) (h : x ≡ subℕ 
 
 joined-none : (negative : Bool) (m : Mantissa) → joined negative m NaturalBad ≡ Bad
 unfolding joined
-joined-none negative (MantissaValue v z f) = refl
+joined-none negative (MantissaValue v z f e) = refl
 joined-none negative MantissaBad = refl
 
 joined-bad : (negative : Bool) (p : Natural) → joined negative MantissaBad p ≡ Bad
@@ -132,23 +132,23 @@ body-decimal negative b =
     go NaturalBad e i = rw (e, i, power-bad (exponentPart b) e) (joined-none negative (mantissaOf (mantissaPart b)))
 
 -- ---- By its parts, as the code cuts them: e is where the exponent starts
-pub body-is : (negative : Bool) (s : List ℕ) (e : ℕ) (m : Mantissa) (x : Natural) → e ≡ length (upTo 101 69 s) → m ≡ mantissaOf (take e s)
-    → x ≡ powerOf (take (length s - e) (drop e s)) → joined negative m x ≡ bodyOf negative s
-unfolding bodyOf mantissaPart exponentPart
-body-is negative s e m x p q r =
-    let a : take e s ≡ upTo 101 69 s = rw p (upTo-take 101 69 s) in
-    rw (q, r, tail-part s e, a, p)
+module _ (negative : Bool) (s : List ℕ) (m : Mantissa) (p : m ≡ mantissaOf (mantissaPart s)) where
+  pub body-bad : m ≡ MantissaBad → Bad ≡ bodyOf negative s
+  unfolding bodyOf
+  body-bad q = rw (← p, q) (sym (joined-bad negative (powerOf (exponentPart s))))
 
-pub joined-value : (negative : Bool) (m : Mantissa) (x : Natural) (v z f n : ℕ) → m ≡ MantissaValue v z f → x ≡ NaturalValue n
-    → pairOf negative v (n + z - f) ≡ joined negative m x
-unfolding joined
-joined-value negative m x v z f n p q = rw (p, q)
+  module _ (v z f e : ℕ) (x : Natural) (q : m ≡ MantissaValue v z f e) (r : x ≡ powerOf (take (length s - e) (drop e s))) where
+    body-is : joined negative (MantissaValue v z f e) x ≡ bodyOf negative s
+    unfolding bodyOf exponentPart
+    body-is = rw (← p, q, r, tail-part s e, mantissa-inv (mantissaPart s) v z f e (sym p ∙ q) .1)
 
-pub joined-mantissa : (negative : Bool) (m : Mantissa) (x : Natural) → m ≡ MantissaBad → Bad ≡ joined negative m x
-joined-mantissa negative m x p = rw p (sym (joined-bad negative x))
+    pub body-value : (n : ℕ) → x ≡ NaturalValue n → pairOf negative v (n + z - f) ≡ bodyOf negative s
+    unfolding joined
+    body-value n h = rw h at body-is
 
-pub joined-power : (negative : Bool) (m : Mantissa) (x : Natural) → x ≡ NaturalBad → Bad ≡ joined negative m x
-joined-power negative m x p = rw p (sym (joined-none negative m))
+    pub body-none : x ≡ NaturalBad → Bad ≡ bodyOf negative s
+    unfolding joined
+    body-none h = rw h at body-is
 
 -- ---- A field
 pub decimal-long : (s : List ℕ) → 32 < length s → Bad ≡ decimalOf s

@@ -1,11 +1,10 @@
 // Decimal fields: what a decimal is worth, as it is kept; a number without its trailing zeros; whether two decimals are the same.
 ghost use mathlib.Core.Path.{_≡_};
-ghost use Prim.Native.Nat.{_+_, _^_, _<_, _≤_, min};
+ghost use Prim.Native.Nat.{_+_, _^_, _<_, _≤_};
 ghost use lib.IntN.{subℕ};
-ghost use lib.ListN.{length};
-ghost use Rattle.numeral.specs.Digits.{signLen};
-ghost use Rattle.decimals.specs.Decimal.{upTo, stripFrom, decimalOf, sameDecimal};
-ghost use Rattle.decimals.specs.Inside.{gatherOf, large, mantissaOf, Fit, powerOf, pairOf, bodyOf};
+ghost use lib.ListN.{length, drop};
+ghost use Rattle.decimals.specs.Decimal.{mantissaPart, stripFrom, decimalOf, sameDecimal};
+ghost use Rattle.decimals.specs.Inside.{signOf, stopOf, gatherOf, large, bareOf, mantissaOf, Fit, powerOf, pairOf, bodyOf};
 use numeral::Decimal;
 use numeral::Natural;
 
@@ -21,52 +20,52 @@ pub struct Stripped {
     pub zeros: u64,
 }
 
-// Digits gathered into a number of at most 18 digits, and a count of zeros behind it.
+// Digits gathered into a number of at most 18 digits, a count of zeros behind it, and where they stop: at a point, or at an e or the end.
 enum Gathered {
-    Digits(u64, u64),
+    Point(u64, u64, usize),
+    End(u64, u64, usize),
     Bad,
 }
 
-// A mantissa without its trailing zeros, how many those were, and how many digits stand behind the point.
+// A mantissa without its trailing zeros, how many those were, how many digits stand behind the point, and where it ends.
 enum Mantissa {
-    Value(u64, u64, u64),
+    Value(u64, u64, u64, usize),
     Bad,
 }
 
-// How long the sign in front is: 1 or 0.
-fn sign_len(s: &[u8]) -> usize
-    ensures { λ r. ⌜ r ≡ signLen (now (s .entry)) ⌝ }
+// A sign in front: whether it is a minus, and how long it is, 1 or 0.
+struct Sign {
+    minus: bool,
+    len: usize,
+}
+
+// The sign in front.
+fn sign_of(s: &[u8]) -> Sign
+    ensures { λ r. ⌜ r ≡ signOf (now (s .entry)) ⌝ }
 {
     if s.len() == 0 {
-        return 0;
+        return Sign {
+            minus: false,
+            len: 0,
+        };
     }
     let b = s[0];
     if b == 45 {
-        return 1;
+        return Sign {
+            minus: true,
+            len: 1,
+        };
     }
     if b == 43 {
-        return 1;
+        return Sign {
+            minus: false,
+            len: 1,
+        };
     }
-    0
-}
-
-// Where the first a or b stands, or the length.
-fn find(s: &[u8], a: u8, b: u8) -> usize
-    ensures { λ r. ⌜ r ≡ length (upTo a b (now (s .entry))) ⌝ }
-    ensures { λ r. ⌜ r ≤ length (now (s .entry)) ⌝ }
-{
-    let mut i = 0;
-    while i < s.len() {
-        let x = s[i];
-        if x == a {
-            return i;
-        }
-        if x == b {
-            return i;
-        }
-        i += 1;
+    Sign {
+        minus: false,
+        len: 0,
     }
-    i
 }
 
 // Trailing zeros of v go over to z.
@@ -93,21 +92,37 @@ pub fn strip(v: u64) -> Stripped
     strip_from(v, 0)
 }
 
-// Gathers the digits of s behind v with z zeros.
-fn gather(v: u64, z: u64, s: &[u8]) -> Gathered
-    requires { ⌜ (v < large) × (z + length (now s) < 2 ^ 32) ⌝ }
-    ensures { λ r. ⌜ r ≡ gatherOf v z (now (s .entry)) ⌝ }
+// What was gathered, v with z zeros, where the digits stop at the byte b, which stands at i.
+fn stop_at(b: u8, v: u64, z: u64, i: usize) -> Gathered
+    ensures { λ r. ⌜ r ≡ stopOf b v z i ⌝ }
+{
+    if b == 46 {
+        return Gathered::Point(v, z, i);
+    }
+    if b == 101 {
+        return Gathered::End(v, z, i);
+    }
+    if b == 69 {
+        return Gathered::End(v, z, i);
+    }
+    Gathered::Bad
+}
+
+// Gathers the digits of s from `at` on behind v with z zeros.
+fn gather(v: u64, z: u64, s: &[u8], at: usize) -> Gathered
+    requires { ⌜ (v < large) × (z ≤ at) × (at ≤ length (now s)) ⌝ }
+    ensures { λ r. ⌜ r ≡ gatherOf v z at (drop at (now (s .entry))) ⌝ }
 {
     let mut w = v;
     let mut k = z;
-    let mut i = 0;
+    let mut i = at;
     while i < s.len() {
         let b = s[i];
         if b < 48 {
-            return Gathered::Bad;
+            return stop_at(b, w, k, i);
         }
         if 57 < b {
-            return Gathered::Bad;
+            return stop_at(b, w, k, i);
         }
         if w < 100000000000000000 {
             w = w * 10 + (b - 48) as u64;
@@ -119,36 +134,34 @@ fn gather(v: u64, z: u64, s: &[u8]) -> Gathered
         }
         i += 1;
     }
-    Gathered::Digits(w, k)
+    Gathered::End(w, k, i)
 }
 
-// The place after p, or the end.
-fn after(p: usize, n: usize) -> usize
-    ensures { λ r. ⌜ r ≡ min (p + 1) n ⌝ }
+// The mantissa of n digits, worth v with z zeros, that has f digits behind the point and ends at e.
+fn bare(n: usize, v: u64, z: u64, f: usize, e: usize) -> Mantissa
+    requires { ⌜ v + z < 2 ^ 64 ⌝ }
+    ensures { λ r. ⌜ r ≡ bareOf n v z f e ⌝ }
 {
-    if p < n {
-        return p + 1;
-    }
-    n
-}
-
-// The mantissa: digits with at most one point.
-fn mantissa_in(s: &[u8]) -> Mantissa
-    requires { ⌜ length (now s) ≤ 32 ⌝ }
-    ensures { λ r. ⌜ (r ≡ mantissaOf (now (s .entry))) × Fit r ⌝ }
-{
-    let p = find(s, 46, 46);
-    let q = after(p, s.len());
-    let f = s.len() - q;
-    if p + f == 0 {
+    if n == 0 {
         return Mantissa::Bad;
     }
-    match gather(0, 0, &s[..p]) {
-        Gathered::Digits(v, z) => match gather(v, z, &s[q..]) {
-            Gathered::Digits(w, k) => {
-                let t = strip_from(w, k);
-                Mantissa::Value(t.v, t.zeros, f as u64)
+    let t = strip_from(v, z);
+    Mantissa::Value(t.v, t.zeros, f as u64, e)
+}
+
+// The mantissa in front of an e or the end: digits with at most one point.
+fn mantissa_in(s: &[u8]) -> Mantissa
+    requires { ⌜ length (now s) ≤ 32 ⌝ }
+    ensures { λ r. ⌜ (r ≡ mantissaOf (mantissaPart (now (s .entry)))) × Fit r ⌝ }
+{
+    match gather(0, 0, s, 0) {
+        Gathered::End(v, z, e) => bare(e, v, z, 0, e),
+        Gathered::Point(v, z, p) => match gather(v, z, s, p + 1) {
+            Gathered::End(w, k, e) => {
+                let n = e - 1;
+                bare(n, w, k, n - p, e)
             }
+            Gathered::Point(_, _, _) => Mantissa::Bad,
             Gathered::Bad => Mantissa::Bad,
         },
         Gathered::Bad => Mantissa::Bad,
@@ -163,8 +176,9 @@ fn power_in(s: &[u8]) -> Natural
         return Natural::Value(200);
     }
     let t = &s[1..];
-    let negative = numeral::is_minus(t);
-    let a = sign_len(t);
+    let g = sign_of(t);
+    let negative = g.minus;
+    let a = g.len;
     let d = &t[a..];
     if 2 < d.len() {
         return Natural::Bad;
@@ -221,11 +235,8 @@ fn body(negative: bool, s: &[u8]) -> Number
     requires { ⌜ length (now s) ≤ 32 ⌝ }
     ensures { λ r. ⌜ r ≡ bodyOf negative (now (s .entry)) ⌝ }
 {
-    let e = find(s, 101, 69);
-    let m = mantissa_in(&s[..e]);
-    let x = power_in(&s[e..]);
-    match m {
-        Mantissa::Value(v, z, f) => match x {
+    match mantissa_in(s) {
+        Mantissa::Value(v, z, f, e) => match power_in(&s[e..]) {
             Natural::Value(n) => pair(negative, v, n + z - f),
             Natural::Bad => Number::Bad,
         },
@@ -240,9 +251,9 @@ pub fn read_decimal(field: &[u8]) -> Number
     if 32 < field.len() {
         return Number::Bad;
     }
-    let negative = numeral::is_minus(field);
-    let a = sign_len(field);
-    body(negative, &field[a..])
+    let g = sign_of(field);
+    let a = g.len;
+    body(g.minus, &field[a..])
 }
 
 // Are two decimals the same? Of kept pairs, this is equality of their values.

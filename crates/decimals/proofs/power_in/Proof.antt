@@ -6,14 +6,14 @@ use mathlib.Core.Path.{_≡_, sym, _∙_, ap}
 use native.Mathlib.Omega.{arith}
 use denote.Ref.{now}
 use lib.ListN.{length, take, drop}
-use Rattle.numeral.specs.Digits.{isMinus, signLen}
 use Rattle.numeral.specs.Integer.{integerOf}
-use Rattle.decimals.specs.Inside.{biased, powerOf}
+use Rattle.decimals.specs.Inside.{signOf, biased, powerOf}
+use Rattle.decimals.specs.declared.Sign.{Sign}
 use Rattle.numeral.specs.declared.Natural.{Natural}
 use Rattle.numeral.specs.declared.Natural.the-variants.{Value, Bad}
-use Rattle.numeral.proofs.Digits.{sign-le}
 use Rattle.numeral.proofs.Integer.{integer-inv}
 use Rattle.numeral.proofs.Parts.{tail-part}
+use Rattle.decimals.proofs.Parts.{sign-fits}
 use Rattle.decimals.proofs.Powers.{powerAt, power-none, power-some, short-long, short-value, short-bad}
 use borrow.Author.Needs.{needs}
 use Rattle.decimals.proofs.power_in.Statement.{statement}
@@ -24,12 +24,12 @@ abbrev from : List ℕ → ℕ → List ℕ
 from s a = take (length s - a) (drop a s)
 
 -- what is known once the parts are cut: t stands behind the e, d behind the sign
-parts : (s : List ℕ) (negative : Bool) (a : ℕ) → 0 < length s → negative ≡ isMinus (from s 1) → a ≡ signLen (from s 1)
-    → powerAt negative (from (from s 1) a) ≡ powerOf s
-parts s negative a h n e =
-    rw n
-    (power-some s (from s 1) (from (from s 1) a) h (tail-part s 1)
-    (tail-part (from s 1) a ∙ ap (λ (k : ℕ). drop k (from s 1)) e))
+parts : (s : List ℕ) (g : Sign) → 0 < length s → g ≡ signOf (from s 1) → powerAt (g .minus) (from (from s 1) (g .len)) ≡ powerOf s
+unfolding signOf
+parts s g h e =
+    rw (ap (λ (x : Sign). x .minus) e)
+    (power-some s (from s 1) (from (from s 1) (g .len)) h (tail-part s 1)
+    (tail-part (from s 1) (g .len) ∙ ap (λ (x : Sign). drop (x .len) (from s 1)) e))
 
 -- the returns, by d
 long : (s d : List ℕ) (negative : Bool) → powerAt negative d ≡ powerOf s → 2 < length d → Bad ≡ powerOf s
@@ -55,19 +55,19 @@ plus s negative n t e = rw t at e
 -- ---- what is known at places of the code
 -- the digits behind the sign
 abbrev cut : tie.After-d → List ℕ
-cut c = from (from (now (c .before .before .before .before .before .before .args .s)) 1) (c .before .sign-len .result)
+cut c = from (from (now (c .before .before .before .before .before .args .s)) 1) (c .before .sign-of .result .len)
 
 the-parts : (c : tie.After-d)
-    → powerAt (c .before .before .is-minus .result) (cut c) ≡ powerOf (now (c .before .before .before .before .before .before .args .s))
-the-parts c = parts _ _ _ (omega arith) (c .before .before .is-minus .ensures) (c .before .sign-len .ensures)
+    → powerAt (c .before .sign-of .result .minus) (cut c) ≡ powerOf (now (c .before .before .before .before .before .args .s))
+the-parts c = parts _ _ (omega arith) (c .before .sign-of .ensures)
 
-the-sign : (c : tie.After-sign-len) → c .sign-len .result ≤ length (from (now (c .before .before .before .before .before .args .s)) 1)
-the-sign c = omega (arith, sign-le (from (now (c .before .before .before .before .before .args .s)) 1))
+the-sign : (c : tie.After-sign-of) → c .sign-of .result .len ≤ length (from (now (c .before .before .before .before .args .s)) 1)
+the-sign c = sign-fits _ _ (c .sign-of .ensures)
 
 small : (c : tie.After-n) → c .n .given .0 .0 ≤ 99
 small c = integer-inv 0 99 _ _ (sym (c .before .before .read-integer .ensures) ∙ c .n .given .1) .most
 
-the-value : (c : tie.After-known-told) → Value (biased (c .before .before .before .before .before .before .before .is-minus .result) (c .before .n .given .0 .0)) ≡ powerOf (now (c .before .before .before .before .before .before .before .before .before .before .before .args .s))
+the-value : (c : tie.After-known-told) → Value (biased (c .before .before .before .before .before .before .sign-of .result .minus) (c .before .n .given .0 .0)) ≡ powerOf (now (c .before .before .before .before .before .before .before .before .before .before .args .s))
 the-value c = good _ _ _ _ _ (the-parts (c .before .before .before .before .before)) (c .before .before .before .before .if2 .left) (c .before .before .before .read-integer .ensures) (c .before .n .given .1)
 
 returns : tie.Need-returns
@@ -82,11 +82,8 @@ part-t-start c = search needs
 part-t-end : tie.Need-part-t-end
 part-t-end c = search needs
 
-is-minus-requires : tie.Need-is-minus-requires
-is-minus-requires c κs = search needs
-
-sign-len-requires : tie.Need-sign-len-requires
-sign-len-requires c κs = search needs
+sign-of-requires : tie.Need-sign-of-requires
+sign-of-requires c κs = search needs
 
 sub-d : tie.Need-sub-d
 sub-d c = the-sign c
@@ -98,7 +95,7 @@ part-d-end : tie.Need-part-d-end
 part-d-end c = search needs
 
 returns-2 : tie.Need-returns-2
-returns-2 c = long _ (cut (c .before)) (c .before .before .before .is-minus .result) (the-parts (c .before)) (c .if2 .taken)
+returns-2 c = long _ (cut (c .before)) (c .before .before .sign-of .result .minus) (the-parts (c .before)) (c .if2 .taken)
 
 read-integer-requires : tie.Need-read-integer-requires
 read-integer-requires c κs = search needs
@@ -106,14 +103,14 @@ read-integer-requires c κs = search needs
 enum-known-n : tie.Need-enum-known-n
 enum-known-n c = search needs
 
-sub-t16 : tie.Need-sub-t16
-sub-t16 c = let h = small (c .before .before) in omega arith
+sub-t17 : tie.Need-sub-t17
+sub-t17 c = let h = small (c .before .before) in omega arith
 
 returns-3 : tie.Need-returns-3
 returns-3 c = minus _ _ _ (c .if3 .taken) (the-value (c .before))
 
-add-t17 : tie.Need-add-t17
-add-t17 c = let h = small (c .before .before) in omega arith
+add-t18 : tie.Need-add-t18
+add-t18 c = let h = small (c .before .before) in omega arith
 
 enum-told : tie.Need-enum-told
 enum-told c = search needs
@@ -132,17 +129,16 @@ power-in-spec =
     sub-t
     part-t-start
     part-t-end
-    is-minus-requires
-    sign-len-requires
+    sign-of-requires
     sub-d
     part-d-start
     part-d-end
     returns-2
     read-integer-requires
     enum-known-n
-    sub-t16
+    sub-t17
     returns-3
-    add-t17
+    add-t18
     enum-told
     returns-4
     returns-5)
