@@ -1,4 +1,3 @@
--- The laws of columns: the tables, and how many numbers a row has.
-pub mod Table
+-- The laws of columns: their kinds as digits, and how many numbers a row has.
 pub mod Columns
 pub mod Widths

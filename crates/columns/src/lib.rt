@@ -1,9 +1,9 @@
-// Columns: which columns each kind of row has, as tables, and the number of each kind of row.
+// Columns: which columns each kind of row has, and the number of each kind of row.
 ghost use mathlib.Core.Path.{_≡_};
 ghost use lib.IntN.{pos};
 ghost use lib.ListN.{length, getD};
 ghost use Rattle.columns.specs.Columns.{columnsOf, formNumber, isAbsent};
-ghost use Rattle.columns.specs.Inside.{formPlace, editionPlace, kindOf};
+ghost use Rattle.columns.specs.Inside.{kindOf, packed};
 use shape::Edition;
 
 // What kind of number a column holds, and so its form and range.
@@ -32,56 +32,6 @@ pub enum Form {
     Trigger,
 }
 
-// The columns of each form, 1.3 first and 1.4 behind it: blocks, RF, gradients, traps, ADC, delays, entries, triggers. The numbers are those
-// of `kind_of`; 9 also stands where there is no column.
-const COLUMNS: [[u8; 9]; 16] = [
-    [0, 1, 1, 1, 1, 1, 1, 1, 9],
-    [0, 4, 1, 1, 1, 1, 1, 1, 9],
-    [0, 7, 2, 2, 9, 3, 7, 7, 9],
-    [0, 7, 2, 2, 1, 3, 7, 7, 9],
-    [0, 7, 2, 9, 3, 9, 9, 9, 9],
-    [0, 7, 2, 1, 3, 9, 9, 9, 9],
-    [0, 7, 3, 3, 3, 3, 9, 9, 9],
-    [0, 7, 3, 3, 3, 3, 9, 9, 9],
-    [0, 5, 8, 3, 7, 7, 9, 9, 9],
-    [0, 5, 8, 3, 7, 7, 9, 9, 9],
-    [0, 3, 9, 9, 9, 9, 9, 9, 9],
-    [0, 3, 9, 9, 9, 9, 9, 9, 9],
-    [0, 0, 2, 1, 9, 9, 9, 9, 9],
-    [0, 0, 2, 1, 9, 9, 9, 9, 9],
-    [0, 6, 6, 3, 3, 9, 9, 9, 9],
-    [0, 6, 6, 3, 3, 9, 9, 9, 9],
-];
-
-// How many columns each form has; a block's last is its ns, which no field stands for.
-const COUNTS: [u8; 8] = [9, 8, 5, 6, 6, 2, 4, 5];
-
-// Where a form stands in the table.
-fn form_place(form: Form) -> usize
-    ensures { λ r. ⌜ r ≡ formPlace form ⌝ }
-{
-    match form {
-        Form::Block => 0,
-        Form::Rf => 1,
-        Form::Gradient => 2,
-        Form::Trap => 3,
-        Form::Adc => 4,
-        Form::Delay => 5,
-        Form::Entry => 6,
-        Form::Trigger => 7,
-    }
-}
-
-// Where an edition stands in the table.
-fn edition_place(edition: Edition) -> usize
-    ensures { λ r. ⌜ r ≡ editionPlace edition ⌝ }
-{
-    match edition {
-        Edition::V13 => 0,
-        Edition::V14 => 1,
-    }
-}
-
 // The number of a form in its rows.
 pub fn form_number(form: Form) -> i64
     ensures { λ r. ⌜ r ≡ pos (formNumber form) ⌝ }
@@ -98,8 +48,8 @@ pub fn form_number(form: Form) -> i64
     }
 }
 
-// The kind that a number of the table stands for.
-fn kind_of(n: u8) -> Kind
+// The kind that a digit stands for; 9 also stands where there is no column.
+fn kind_of(n: u64) -> Kind
     ensures { λ r. ⌜ r ≡ kindOf n ⌝ }
 {
     match n {
@@ -116,6 +66,31 @@ fn kind_of(n: u8) -> Kind
     }
 }
 
+// The kinds of nine columns of a form as the digits of a number to the base 16, the first column's lowest.
+fn kinds_of(edition: Edition, form: Form) -> u64
+    ensures { λ r. ⌜ r ≡ packed 9 (columnsOf edition form) ⌝ }
+{
+    match form {
+        Form::Block => match edition {
+            Edition::V13 => 0x911111110,
+            Edition::V14 => 0x911111140,
+        },
+        Form::Rf => match edition {
+            Edition::V13 => 0x977392270,
+            Edition::V14 => 0x977312270,
+        },
+        Form::Gradient => match edition {
+            Edition::V13 => 0x999939270,
+            Edition::V14 => 0x999931270,
+        },
+        Form::Trap => 0x999333370,
+        Form::Adc => 0x999773850,
+        Form::Delay => 0x999999930,
+        Form::Entry => 0x999991200,
+        Form::Trigger => 0x999933660,
+    }
+}
+
 // The kind of a column; past the last there is none.
 pub fn kind_at(edition: Edition, form: Form, j: usize) -> Kind
     ensures { λ r. ⌜ r ≡ getD (columnsOf edition form) j Kind.Absent ⌝ }
@@ -123,16 +98,23 @@ pub fn kind_at(edition: Edition, form: Form, j: usize) -> Kind
     if 8 < j {
         return Kind::Absent;
     }
-    let place = form_place(form) * 2 + edition_place(edition);
-    kind_of(COLUMNS[place][j])
+    kind_of((kinds_of(edition, form) >> (4 * j)) % 16)
 }
 
-// How many columns a form has, in every edition.
+// How many columns a form has, in every edition; a block's last is its ns, which no field stands for.
 pub fn column_count(form: Form, edition: Edition) -> usize
     ensures { λ r. ⌜ r ≡ length (columnsOf edition form) ⌝ }
 {
-    let place = form_place(form);
-    COUNTS[place] as usize
+    match form {
+        Form::Block => 9,
+        Form::Rf => 8,
+        Form::Gradient => 5,
+        Form::Trap => 6,
+        Form::Adc => 6,
+        Form::Delay => 2,
+        Form::Entry => 4,
+        Form::Trigger => 5,
+    }
 }
 
 // Is this a column that no field stands for?
