@@ -1,17 +1,44 @@
 -- What the inner functions answer. Nothing here needs to be believed: laws lead from these to the definitions of the other files.
-use Prim.Native.Nat.{ℕ}
+use Prim.Native.Nat.{ℕ, _+_}
+use mathlib.Core.Bool.{Bool, true, false, cond, _&&_}
 use mathlib.Core.List.{List, _∷_}
 use mathlib.Core.Option.{none}
 use mathlib.Core.Path.{_≡_}
-use lib.ListN.{drop}
-use Rattle.fields.specs.Fields.{fieldsOf}
+use lib.Dec.{leb}
+use lib.ListN.{length, take, drop}
+use Rattle.fields.specs.Fields.{fieldsOf, wordLen}
+use Rattle.numeral.specs.Digits.{allDigits, valueFrom}
 use Rattle.columns.specs.Columns.{widthOf}
 use Rattle.columns.specs.declared.Kind.{Kind}
+use Rattle.columns.specs.declared.Kind.the-variants.{Id, Reference, Required, Micros, Duration, Count, Natural, Decimal, Dwell, Absent}
 use Rattle.rows.specs.Cells.{with, rowFrom}
 use Rattle.rows.specs.declared.Cell.{Cell}
 use Rattle.rows.specs.declared.Cell.the-variants.{One, Two}
+use Rattle.rows.specs.declared.Gathered.{Gathered}
+use Rattle.rows.specs.declared.Gathered.the-variants.{Digits, Bad as GatheredBad}
 use Rattle.rows.specs.declared.Taken.{Taken}
 use Rattle.rows.specs.declared.Taken.the-variants.{One as TakenOne, Two as TakenTwo, Bad as TakenBad}
+
+-- the kinds of column in which an integer stands
+abbrev pub byDigits : Kind → Bool
+byDigits Id = true
+byDigits Reference = true
+byDigits Required = true
+byDigits Micros = true
+byDigits Duration = true
+byDigits Count = true
+byDigits Natural = true
+byDigits Decimal = false
+byDigits Dwell = false
+byDigits Absent = false
+
+-- what stands from a place of a line on up to a blank
+unfoldable pub wordAt : List ℕ → ℕ → List ℕ
+wordAt line i = take (wordLen (drop i line)) (drop i line)
+
+-- a word behind k digits worth v that stop at i: with these at most 10 digits, and nothing else
+unfoldable pub gatheredOf : ℕ → ℕ → ℕ → List ℕ → Gathered
+gatheredOf v k i w = cond (leb (k + length w) 10 && allDigits w) (Digits (valueFrom v w) (i + length w)) GatheredBad
 
 -- what was taken at a place of a line for a column, with whatever columns follow
 pub record CellIs (line : List ℕ) (at : ℕ) (kind : Kind) (c : Cell) (width behind : ℕ) : Type 0 where

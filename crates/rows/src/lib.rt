@@ -1,11 +1,12 @@
 // Rows: a line read by the columns of its section into a row's twelve numbers.
 ghost use mathlib.Core.Path.{_≡_};
+ghost use mathlib.Core.Bool.{true, false};
 ghost use mathlib.Core.Option.{none};
 ghost use Rattle.fields.specs.Fields.{fieldsOf};
 ghost use Rattle.decimals.specs.Decimal.{decimalOf};
-ghost use Rattle.columns.specs.Columns.{columnsOf, leastOf, mostOf};
+ghost use Rattle.columns.specs.Columns.{columnsOf, isAbsent, leastOf, mostOf};
 ghost use Rattle.rows.specs.Cells.{integerCell, decimalCell, dwellCell, cellOf, rowFrom, rowIs};
-ghost use Rattle.rows.specs.Inside.{TakenIs};
+ghost use Rattle.rows.specs.Inside.{byDigits, wordAt, gatheredOf, TakenIs};
 use columns::Form;
 use columns::Kind;
 use decimals::Number;
@@ -16,6 +17,12 @@ use shape::Edition;
 pub enum Cell {
     One(i64),
     Two(i64, i64),
+    Bad,
+}
+
+// Digits of a line: what they are worth, and the place behind them.
+enum Gathered {
+    Digits(u64, usize),
     Bad,
 }
 
@@ -126,13 +133,78 @@ pub fn cell_of(kind: Kind, field: &[u8]) -> Cell
     }
 }
 
-// Takes what a line holds for a column from a place on.
-fn take_cell(line: &[u8], at: usize, kind: Kind) -> Taken
+// Is an integer asked for in such a column?
+fn by_digits(kind: Kind) -> bool
+    ensures { λ r. ⌜ r ≡ byDigits kind ⌝ }
+{
+    match kind {
+        Kind::Id => true,
+        Kind::Reference => true,
+        Kind::Required => true,
+        Kind::Micros => true,
+        Kind::Duration => true,
+        Kind::Count => true,
+        Kind::Natural => true,
+        Kind::Decimal => false,
+        Kind::Dwell => false,
+        Kind::Absent => false,
+    }
+}
+
+// Gathers the digits from a place on, up to a blank or the end of the line: at most 10, and nothing else.
+fn gather(line: &[u8], start: usize) -> Gathered
+    ensures { λ r. ⌜ r ≡ gatheredOf 0 0 start (wordAt (now (line .entry)) start) ⌝ }
+{
+    let mut v: u64 = 0;
+    let mut i = start;
+    while i < line.len() {
+        let b = line[i];
+        if b < 48 {
+            if text::is_blank(b) {
+                return Gathered::Digits(v, i);
+            }
+            return Gathered::Bad;
+        }
+        if 57 < b {
+            return Gathered::Bad;
+        }
+        if 9 < i - start {
+            return Gathered::Bad;
+        }
+        v = v * 10 + (b - 48) as u64;
+        i += 1;
+    }
+    Gathered::Digits(v, i)
+}
+
+// Takes the integer that a line holds for a column from a place on.
+fn take_integer(line: &[u8], at: usize, kind: Kind) -> Taken
+    requires { ⌜ byDigits kind ≡ true ⌝ }
     ensures { λ r. ⌜ TakenIs (now (line .entry)) at kind r ⌝ }
 {
-    if columns::is_absent(kind) {
-        return Taken::One(0, at);
+    let start = text::skip(line, at);
+    if line.len() <= start {
+        return Taken::Bad;
     }
+    match gather(line, start) {
+        Gathered::Digits(v, stop) => {
+            if v < least_of(kind) {
+                return Taken::Bad;
+            }
+            if most_of(kind) < v {
+                return Taken::Bad;
+            }
+            Taken::One(signed::with_sign(false, v), stop)
+        }
+        Gathered::Bad => Taken::Bad,
+    }
+}
+
+// Takes the field that a line holds for a column from a place on.
+fn take_field(line: &[u8], at: usize, kind: Kind) -> Taken
+    requires { ⌜ isAbsent kind ≡ false ⌝ }
+    ensures { λ r. ⌜ TakenIs (now (line .entry)) at kind r ⌝ }
+{
     let field = fields::next_field(line, at);
     let start = field.start;
     let stop = field.stop;
@@ -144,6 +216,19 @@ fn take_cell(line: &[u8], at: usize, kind: Kind) -> Taken
         Cell::Two(a, b) => Taken::Two(a, b, stop),
         Cell::Bad => Taken::Bad,
     }
+}
+
+// Takes what a line holds for a column from a place on.
+fn take_cell(line: &[u8], at: usize, kind: Kind) -> Taken
+    ensures { λ r. ⌜ TakenIs (now (line .entry)) at kind r ⌝ }
+{
+    if by_digits(kind) {
+        return take_integer(line, at, kind);
+    }
+    if columns::is_absent(kind) {
+        return Taken::One(0, at);
+    }
+    take_field(line, at, kind)
 }
 
 // No row.
