@@ -1,9 +1,9 @@
 -- Laws of powers of ten: a number scaled up into a range, scaled down exactly, and scaled down to the nearest. Assumes nothing.
-use Prim.Native.Nat.{ℕ, suc, _+_, _*_, _-_, _/_, _%_, _^_, _<_, _≤_}
+use Prim.Native.Nat.{ℕ, zero, suc, _+_, _*_, _-_, _/_, _%_, _^_, _<_, _≤_}
 use mathlib.Core.Bool.{cond}
 use mathlib.Core.Path.{_≡_, sym, ap, _∙_}
 use native.Mathlib.Omega.{arith}
-use native.Mathlib.Nat.{one-le-pow, pow-suc, pow-le-pow-right, zero-mul, mul-le-mul-right, lt-of-lt-of-le, le-div-iff-mul-le, div-lt-iff-lt-mul, mod-eq-of-lt, div-eq-of-lt, div-div-eq-div-mul, add-mul-div-left}
+use native.Mathlib.Nat.{one-le-pow, pow-zero, pow-suc, mul-one, mul-assoc, add-zero, add-suc, mul-lt-mul-of-pos-right, pow-le-pow-right, zero-mul, mul-le-mul-right, lt-of-lt-of-le, le-div-iff-mul-le, div-lt-iff-lt-mul, mod-eq-of-lt, div-eq-of-lt, div-div-eq-div-mul, add-mul-div-left}
 use borrow.Author.Tests.{eq-eqb, ne-eqb}
 use lib.Dec.{eqb, lit<}
 use Rattle.numeral.specs.Integer.{inRange}
@@ -21,6 +21,10 @@ ten-most h = pow-le-pow-right {n = 10} (lit< tt) h
 pub power-some : {p : ℕ} (k : ℕ) → p ≡ 10 ^ k → 0 < p
 power-some k e = rw e (ten-some k)
 
+ten-plus : (a k : ℕ) → 10 ^ a * 10 ^ k ≡ 10 ^ (a + k)
+ten-plus a zero = rw (pow-zero, mul-one, add-zero)
+ten-plus a (suc k) = rw (pow-suc 10 k, add-suc, pow-suc 10 (a + k)) (sym (mul-assoc (10 ^ a) (10 ^ k) 10) ∙ ap (λ (x : ℕ). x * 10) (ten-plus a k))
+
 -- ---- Up
 module _ (low high v k : ℕ) where
   pub up-zero : v ≡ 0 → inRange low high 0 ≡ inRange low high (v * 10 ^ k)
@@ -32,15 +36,23 @@ module _ (low high v k : ℕ) where
       let s : 1 * 10 ^ k ≤ v * 10 ^ k = mul-le-mul-right (10 ^ k) (omega arith) in
       range-above low high (v * 10 ^ k) (omega arith)
 
-  module _ (p : ℕ) (e : p ≡ 10 ^ k) where
-    pub up-over : high / p < v → Bad ≡ inRange low high (v * 10 ^ k)
-    up-over h = range-above low high (v * 10 ^ k) (rw (← e) (div-lt-iff-lt-mul (power-some k e) .0 h))
+  -- whether v times ten to the power k reaches 10 ^ 19 is told by another power, `rest`
+  module _ (h : k ≤ 18) (rest : ℕ) (e : rest ≡ 10 ^ (18 - k)) where
+    whole : rest * 10 * 10 ^ k ≡ 10 ^ 19
+    whole = let m : suc (18 - k) + k ≡ 19 = omega arith in
+        rw (e, ← pow-suc 10 (18 - k)) (ten-plus (suc (18 - k)) k ∙ ap (λ (n : ℕ). 10 ^ n) m)
 
-    pub up-most : v ≤ high / p → v * p ≤ high
-    up-most h = le-div-iff-mul-le (power-some k e) .0 h
+    pub up-over : rest * 10 ≤ v → high < 10 ^ 19 → Bad ≡ inRange low high (v * 10 ^ k)
+    up-over o b = let m : rest * 10 * 10 ^ k ≤ v * 10 ^ k = mul-le-mul-right (10 ^ k) o in range-above low high (v * 10 ^ k) (omega (arith, whole))
 
-    pub up-is : inRange low high (v * p) ≡ inRange low high (v * 10 ^ k)
-    up-is = rw e
+    pub rest-most : rest * 10 ≤ 10 ^ 19
+    rest-most = let l : 18 - k ≤ 18 = omega arith in let m = ten-most l in omega (arith, e, m)
+
+    pub up-most : {p : ℕ} → p ≡ 10 ^ k → v < rest * 10 → v * p < 10 ^ 19
+    up-most q o = rw (q, ← whole) (mul-lt-mul-of-pos-right o (ten-some k))
+
+  pub up-is : {p : ℕ} → p ≡ 10 ^ k → inRange low high (v * p) ≡ inRange low high (v * 10 ^ k)
+  up-is e = rw e
 
 -- ---- Down, exactly
 abbrev pub downOf : ℕ → ℕ → ℕ → ℕ → Natural

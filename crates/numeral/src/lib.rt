@@ -103,18 +103,32 @@ pub fn read_counter(field: &[u8], most: u64) -> Signed
     signed_as(false, read_integer(field, 0, most))
 }
 
-// Ten to the power k, step by step.
+// Ten to the power k.
 fn power_of_ten(k: u64) -> u64
     requires { ⌜ k ≤ 18 ⌝ }
     ensures { λ r. ⌜ r ≡ 10 ^ k ⌝ }
 {
-    let mut p: u64 = 1;
-    let mut i: u64 = 0;
-    while i < k {
-        p = p * 10;
-        i += 1;
+    match k {
+        0 => 1,
+        1 => 10,
+        2 => 100,
+        3 => 1000,
+        4 => 10000,
+        5 => 100000,
+        6 => 1000000,
+        7 => 10000000,
+        8 => 100000000,
+        9 => 1000000000,
+        10 => 10000000000,
+        11 => 100000000000,
+        12 => 1000000000000,
+        13 => 10000000000000,
+        14 => 100000000000000,
+        15 => 1000000000000000,
+        16 => 10000000000000000,
+        17 => 100000000000000000,
+        _ => 1000000000000000000,
     }
-    p
 }
 
 // By which power of ten a number goes up or down whose exponent is e, counted in units of 10 to the -by.
@@ -143,11 +157,10 @@ fn scale_up(v: u64, k: u64, low: u64, high: u64) -> Natural
     if 18 < k {
         return Natural::Bad;
     }
-    let p = power_of_ten(k);
-    if high / p < v {
+    if power_of_ten(18 - k) * 10 <= v {
         return Natural::Bad;
     }
-    in_range(v * p, low, high)
+    in_range(v * power_of_ten(k), low, high)
 }
 
 // v by ten to the power k, if that is whole and in a range.
