@@ -108,6 +108,20 @@ module _ (q : Rasters) (rows : List ℤ) (n : ℕ) (samples : List ℤ) where
           m ∙ rw (o, s, x) (capped-longer (entryLength q rows n samples k) (chainLength q rows n samples (left - 1) (nextEntry rows n k)))
           ∙ ap capped (sym (ap (λ (j : ℕ). chainLength q rows n samples j k) more ∙ on (left - 1) l))
 
+  -- ---- a number of a block: whether it is 0 is asked first
+  module _ (e : Edition) (k c : ℕ) (id : ℤ) (i : id ≡ numberAt rows k c) where
+    pub number-nothing : sameZ id (pos 0) ≡ true → 0 ≡ capped (numberLength e q rows n samples k c)
+    unfolding numberLength referenceLength metLength metRow
+    number-nothing z = rw (← i, z) (go (sameZ (refAt e rows n k c) (pos 7)))
+      where
+        go : (b : Bool) → 0 ≡ capped (cond b (chainLength q rows n samples 256 n) (cond (ltb n n) (lengthAt q rows n samples n) 0))
+        go true = chain-past 256 n (λ (h : 256 ≡ 0). omega arith) (omega arith)
+        go false = rw (le-ltb n n (omega arith))
+
+    pub number-met : (class held ref : ℤ) → class ≡ refAt e rows n k c → held ≡ class → ref ≡ id → capped (referenceLength q rows n samples held ref) ≡ capped (numberLength e q rows n samples k c)
+    unfolding numberLength
+    number-met class held ref p r s = rw (r, p, s, i)
+
   -- ---- the numbers of a block, one after another
   module _ (e : Edition) (k : ℕ) where
     pub record Longest (most c : ℕ) : Type 0 where
@@ -118,13 +132,11 @@ module _ (q : Rasters) (rows : List ℤ) (n : ℕ) (samples : List ℤ) where
     unfolding longestEvent
     longest-start = record { inside = omega arith; same = omega arith }
 
-    pub longest-turn : (most c next own : ℕ) (class held id ref : ℤ) → Longest most c → c < 9 → class ≡ refAt e rows n k c → held ≡ class → id ≡ numberAt rows k c → ref ≡ id
-        → own ≡ capped (referenceLength q rows n samples held ref) → next ≡ max most own → Longest next (c + 1)
-    unfolding numberLength longestOf
-    longest-turn most c next own class held id ref w h p r i s o m =
+    pub longest-turn : (most c next own : ℕ) → Longest most c → c < 9 → own ≡ capped (numberLength e q rows n samples k c) → next ≡ max most own → Longest next (c + 1)
+    unfolding longestOf
+    longest-turn most c next own w h here m =
         let left : 9 - c ≡ suc (9 - (c + 1)) = omega arith in
         let rest = longestOf (numberLength e q rows n samples k) (c + 1) (9 - (c + 1)) in
-        let here : own ≡ capped (numberLength e q rows n samples k c) = o ∙ rw (r, p, s, i) in
         let all : max most (capped (max (numberLength e q rows n samples k c) rest)) ≡ capped (longestEvent e q rows n samples k) = rw (left, ← add-one c) at (w .same) in
         record {
           inside = omega arith;

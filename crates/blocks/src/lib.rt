@@ -2,7 +2,7 @@
 ghost use Rattle.tables.specs.Tables.{NoneAgain};
 ghost use mathlib.Core.Path.{_≡_};
 ghost use Rattle.unit.specs.Time.{capped};
-ghost use Rattle.blocks.specs.Blocks.{metLength, entryLength, chainLength, referenceLength, longestEvent, blockLength, isLong, outlastsAt};
+ghost use Rattle.blocks.specs.Blocks.{metLength, entryLength, chainLength, referenceLength, numberLength, longestEvent, blockLength, isLong, outlastsAt};
 use shape::Edition;
 use unit::Nanos;
 use unit::RasterCount;
@@ -12,7 +12,7 @@ use unit::Rasters;
 fn met_length(
     rasters: Rasters,
     rows: &[i64],
-    hints: &[i64],
+    hints: &[u16],
     n: usize,
     samples: &[i64],
     class: i64,
@@ -35,7 +35,7 @@ fn met_length(
 fn entry_length(
     rasters: Rasters,
     rows: &[i64],
-    hints: &[i64],
+    hints: &[u16],
     n: usize,
     samples: &[i64],
     k: usize,
@@ -59,7 +59,7 @@ fn entry_length(
 fn chain_length(
     rasters: Rasters,
     rows: &[i64],
-    hints: &[i64],
+    hints: &[u16],
     n: usize,
     samples: &[i64],
     k: usize,
@@ -83,7 +83,7 @@ fn chain_length(
 fn reference_length(
     rasters: Rasters,
     rows: &[i64],
-    hints: &[i64],
+    hints: &[u16],
     n: usize,
     samples: &[i64],
     class: i64,
@@ -99,12 +99,34 @@ fn reference_length(
     met_length(rasters, rows, hints, n, samples, class, id)
 }
 
+// How long that lasts which number c of block k refers to. Most numbers are 0, and refer to nothing.
+fn number_length(
+    edition: Edition,
+    rasters: Rasters,
+    rows: &[i64],
+    hints: &[u16],
+    n: usize,
+    samples: &[i64],
+    k: usize,
+    c: usize,
+) -> Nanos
+    requires { ⌜ NoneAgain (now rows) n ⌝ }
+    ensures { λ r. ⌜ r .0 ≡ capped (numberLength edition rasters (now (rows .entry)) n (now (samples .entry)) k c) ⌝ }
+{
+    let id = tables::number(rows, k, c);
+    if signed::same(id, 0) {
+        return Nanos(0);
+    }
+    let class = references::ref_at(edition, rows, hints, n, k, c);
+    reference_length(rasters, rows, hints, n, samples, class, id)
+}
+
 // The longest event of block k.
 pub fn longest_event(
     edition: Edition,
     rasters: Rasters,
     rows: &[i64],
-    hints: &[i64],
+    hints: &[u16],
     n: usize,
     samples: &[i64],
     k: usize,
@@ -115,9 +137,7 @@ pub fn longest_event(
     let mut longest = Nanos(0);
     let mut c: usize = 2;
     while c < 9 {
-        let class = references::ref_at(edition, rows, hints, n, k, c);
-        let id = tables::number(rows, k, c);
-        longest = longest.longer(reference_length(rasters, rows, hints, n, samples, class, id));
+        longest = longest.longer(number_length(edition, rasters, rows, hints, n, samples, k, c));
         c += 1;
     }
     longest
@@ -128,7 +148,7 @@ pub fn block_length(
     edition: Edition,
     rasters: Rasters,
     rows: &[i64],
-    hints: &[i64],
+    hints: &[u16],
     n: usize,
     samples: &[i64],
     k: usize,
@@ -150,7 +170,7 @@ pub fn is_long(
     edition: Edition,
     rasters: Rasters,
     rows: &[i64],
-    hints: &[i64],
+    hints: &[u16],
     n: usize,
     samples: &[i64],
     k: usize,
@@ -169,7 +189,7 @@ pub fn is_long(
 pub fn outlasts(
     rasters: Rasters,
     rows: &[i64],
-    hints: &[i64],
+    hints: &[u16],
     n: usize,
     samples: &[i64],
     k: usize,

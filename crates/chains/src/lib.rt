@@ -4,7 +4,7 @@ ghost use mathlib.Core.Path.{_≡_};
 ghost use Rattle.chains.specs.Chains.{nextEntry, exceedsOf, loopsAt};
 
 // The row of the entry that follows entry k; n, the number of rows, if none does.
-pub fn next_entry(rows: &[i64], hints: &[i64], n: usize, k: usize) -> usize
+pub fn next_entry(rows: &[i64], hints: &[u16], n: usize, k: usize) -> usize
     requires { ⌜ NoneAgain (now rows) n ⌝ }
     ensures { λ r. ⌜ r ≡ nextEntry (now (rows .entry)) n k ⌝ }
 {
@@ -12,7 +12,7 @@ pub fn next_entry(rows: &[i64], hints: &[i64], n: usize, k: usize) -> usize
 }
 
 // Has the chain from entry k more entries than are left to count?
-fn exceeds(rows: &[i64], hints: &[i64], n: usize, k: usize, left: usize) -> bool
+fn exceeds(rows: &[i64], hints: &[u16], n: usize, k: usize, left: usize) -> bool
     requires { ⌜ NoneAgain (now rows) n ⌝ }
     ensures { λ r. ⌜ r ≡ exceedsOf (now (rows .entry)) n left k ⌝ }
 {
@@ -27,7 +27,7 @@ fn exceeds(rows: &[i64], hints: &[i64], n: usize, k: usize, left: usize) -> bool
 }
 
 // Is row k an entry whose chain is over 256 entries?
-pub fn loops(rows: &[i64], hints: &[i64], n: usize, k: usize) -> bool
+pub fn loops(rows: &[i64], hints: &[u16], n: usize, k: usize) -> bool
     requires { ⌜ NoneAgain (now rows) n ⌝ }
     ensures { λ r. ⌜ r ≡ loopsAt (now (rows .entry)) n k ⌝ }
 {

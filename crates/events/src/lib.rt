@@ -52,7 +52,7 @@ fn rises(times: &[i64]) -> bool
 }
 
 // Does a time shape fit so many samples? None, which is 0, does.
-fn time_fits(rows: &[i64], hints: &[i64], n: usize, samples: &[i64], id: i64, count: usize) -> bool
+fn time_fits(rows: &[i64], hints: &[u16], n: usize, samples: &[i64], id: i64, count: usize) -> bool
     requires { ⌜ NoneAgain (now rows) n ⌝ }
     ensures { λ r. ⌜ r ≡ timeFits (now (rows .entry)) n (now (samples .entry)) id count ⌝ }
 {
@@ -67,7 +67,7 @@ fn time_fits(rows: &[i64], hints: &[i64], n: usize, samples: &[i64], id: i64, co
 }
 
 // Do the amplitude of row k and its time shape, which is number c, fit?
-fn shaped_fits(rows: &[i64], hints: &[i64], n: usize, samples: &[i64], k: usize, c: usize) -> bool
+fn shaped_fits(rows: &[i64], hints: &[u16], n: usize, samples: &[i64], k: usize, c: usize) -> bool
     requires { ⌜ NoneAgain (now rows) n ⌝ }
     ensures { λ r. ⌜ r ≡ shapedFits (now (rows .entry)) n (now (samples .entry)) k c ⌝ }
 {
@@ -86,7 +86,7 @@ fn shaped_fits(rows: &[i64], hints: &[i64], n: usize, samples: &[i64], k: usize,
 }
 
 // Do the three shapes of an RF event fit?
-fn rf_fits(rows: &[i64], hints: &[i64], n: usize, samples: &[i64], k: usize) -> bool
+fn rf_fits(rows: &[i64], hints: &[u16], n: usize, samples: &[i64], k: usize) -> bool
     requires { ⌜ NoneAgain (now rows) n ⌝ }
     ensures { λ r. ⌜ r ≡ rfFits (now (rows .entry)) n (now (samples .entry)) k ⌝ }
 {
@@ -99,7 +99,7 @@ fn rf_fits(rows: &[i64], hints: &[i64], n: usize, samples: &[i64], k: usize) -> 
 }
 
 // Is row k an event whose shapes do not fit it?
-pub fn misfits(rows: &[i64], hints: &[i64], n: usize, samples: &[i64], k: usize) -> bool
+pub fn misfits(rows: &[i64], hints: &[u16], n: usize, samples: &[i64], k: usize) -> bool
     requires { ⌜ NoneAgain (now rows) n ⌝ }
     ensures { λ r. ⌜ r ≡ misfitsAt (now (rows .entry)) n (now (samples .entry)) k ⌝ }
 {

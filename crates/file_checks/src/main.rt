@@ -245,7 +245,7 @@ fn check_rules(
     requires { ⌜ NoneAgain (now table) rows ⌝ }
     ensures { λ r. ⌜ r ≡ r ⌝ }
 {
-    let hints = [0i64; 16];
+    let hints = [0u16; 16];
     let mut i: usize = 0;
     while i < 6 {
         let rule = rule_at(i);
@@ -287,7 +287,7 @@ fn judge_rows(
         show_refusal(events.number, events.line);
         return;
     }
-    let hints = [0i64; 16];
+    let hints = [0u16; 16];
     rules::fill_lengths(edition, rasters, table, &hints, rows, &samples);
     show_accepted(table, rows, &samples, count);
 }

@@ -1,192 +1,174 @@
 // Finding a row by its class and ID. Hints, noted once for all rows, tell where a row may stand; a hint is looked at, never believed.
-ghost use Prim.Native.Nat.{_+_, _≤_, _<_};
+ghost use Prim.Native.Nat.{_≤_, _<_};
 ghost use mathlib.Core.Path.{_≡_};
-ghost use Rattle.tables.specs.Tables.{firstRow, NoneAgain, metRow, metNumber, samplesOf};
-ghost use Rattle.finding.specs.Hints.{runAt, placeOf, notedRow, notedRows};
+ghost use mathlib.Core.Bool.{true};
+ghost use Rattle.tables.specs.Tables.{isRowOf, firstRow, NoneAgain, metRow, metNumber, samplesOf};
+ghost use Rattle.finding.specs.Hints.{groupOf, roomOf, homeOf, freeFrom, laidOn, markOf, notedRow, notedRows};
 
-// The number of the run that row k stands in: its class, and for traps one of their own.
-fn run_of(rows: &[i64], k: usize) -> i64
-    ensures { λ r. ⌜ r ≡ runAt (now (rows .entry)) k ⌝ }
+// How many rows share a hint, so that a hint of 16 bits can name any of n rows.
+fn group_of(n: usize) -> usize
+    ensures { λ r. ⌜ r ≡ groupOf n ⌝ }
 {
-    if signed::same(tables::number(rows, k, 0), 4) {
-        return 4;
+    let most = n / 65535;
+    if 1000000 < most {
+        return 1000001;
     }
-    tables::row_class(rows, k)
+    most + 1
 }
 
-// Where the hint for an ID of a run is noted: each of 16 runs has 2,048 places.
-fn place_of(run: i64, id: i64) -> usize
-    ensures { λ r. ⌜ r ≡ placeOf run id ⌝ }
+// Among how many of so many places a hint can have its home: 63 more stand behind each.
+fn room_of(count: usize) -> u64
+    ensures { λ r. ⌜ r ≡ roomOf count ⌝ }
 {
-    (signed::size(run) % 16 * 2048 + signed::size(id) % 2048) as usize
+    if count < 63 {
+        return 0;
+    }
+    if 4294967296 < count {
+        return 4294967233;
+    }
+    (count - 63) as u64
 }
 
-// Notes where row k stands, if there is a place for it.
-fn note_row(hints: &mut [i64], rows: &[i64], k: usize)
-    ensures { λ r. ⌜ now (hints .exit) ≡ notedRow (now (hints .entry)) (now (rows .entry)) k ⌝ }
+// The home of the hint for an ID of a class, among so many places. An ID is mixed, so that IDs in any order spread.
+fn home_of(count: usize, class: i64, id: i64) -> usize
+    ensures { λ r. ⌜ r ≡ homeOf count class id ⌝ }
 {
-    let at = place_of(run_of(rows, k), tables::number(rows, k, 1));
+    let own = signed::size(id) % 4294967296 * 2654435769;
+    let mixed = (own + signed::size(class) % 16 * 268435456) % 4294967296;
+    (mixed * room_of(count) / 4294967296) as usize
+}
+
+// The first place from a home on that has no hint; where there is none among 64, the place behind them.
+fn free_from(hints: &[u16], home: usize) -> usize
+    ensures { λ r. ⌜ r ≡ freeFrom (now (hints .entry)) home 64 ⌝ }
+{
+    let mut at = home;
+    let mut left: usize = 64;
+    while 0 < left {
+        if hints.len() <= at {
+            return at;
+        }
+        if hints[at] == 0 {
+            return at;
+        }
+        at += 1;
+        left -= 1;
+    }
+    at
+}
+
+// The hint for row k of n: the number of its group, from 1.
+fn mark_of(k: usize, n: usize) -> u16
+    ensures { λ r. ⌜ r ≡ markOf k n ⌝ }
+{
+    let group = k / group_of(n);
+    if 65534 < group {
+        return 65535;
+    }
+    (group + 1) as u16
+}
+
+// Lays a hint at a place, if that is there and has none.
+fn lay_hint(hints: &mut [u16], at: usize, mark: u16)
+    ensures { λ r. ⌜ now (hints .exit) ≡ laidOn (now (hints .entry)) at mark ⌝ }
+{
     if at < hints.len() {
-        hints[at] = signed::with_sign(false, k as u64);
+        if hints[at] == 0 {
+            hints[at] = mark;
+        }
     }
 }
 
-// Notes where each of n rows stands, the last first: of rows that share a place the first is noted in the end.
-pub fn note_rows(hints: &mut [i64], rows: &[i64], n: usize)
-    ensures { λ r. ⌜ now (hints .exit) ≡ notedRows (now (hints .entry)) (now (rows .entry)) n ⌝ }
+// Notes where row k of n stands. Nothing refers to blocks, which are not noted.
+fn note_row(hints: &mut [u16], rows: &[i64], n: usize, k: usize)
+    ensures { λ r. ⌜ now (hints .exit) ≡ notedRow (now (hints .entry)) (now (rows .entry)) n k ⌝ }
 {
-    let mut k = n;
-    while 0 < k {
-        k -= 1;
-        note_row(hints, rows, k);
+    let class = tables::row_class(rows, k);
+    if signed::same(class, 1) {
+        return;
     }
+    let home = home_of(hints.len(), class, tables::number(rows, k, 1));
+    let at = free_from(hints, home);
+    lay_hint(hints, at, mark_of(k, n));
 }
 
-// The hint for an ID of a run; row 0 where there is none.
-fn hint_of(hints: &[i64], run: i64, id: i64) -> usize {
-    let at = place_of(run, id);
-    if at < hints.len() {
-        return signed::size(hints[at]) as usize;
-    }
-    0
-}
-
-// Is row k in this run, with an ID of at most this one?
-fn is_up_to(rows: &[i64], k: usize, run: i64, id: i64) -> bool {
-    if signed::same(run_of(rows, k), run) {
-        return !signed::less(id, tables::number(rows, k, 1));
-    }
-    false
-}
-
-// The farther of two rows if it is up to this ID in this run, else the nearer.
-fn farther(rows: &[i64], near: usize, far: usize, run: i64, id: i64) -> usize
-    requires { ⌜ near ≤ far ⌝ }
-    ensures { λ r. ⌜ near ≤ r ⌝ }
-    ensures { λ r. ⌜ r ≤ far ⌝ }
+// Notes where each of n rows stands.
+pub fn note_rows(hints: &mut [u16], rows: &[i64], n: usize)
+    ensures { λ r. ⌜ now (hints .exit) ≡ notedRows (now (hints .entry)) (now (rows .entry)) n 0 n ⌝ }
 {
-    if is_up_to(rows, far, run, id) {
-        return far;
+    let mut k: usize = 0;
+    while k < n {
+        note_row(hints, rows, n, k);
+        k += 1;
     }
-    near
 }
 
-// The last row before the end that is up to this ID in this run, by halves, as if those that are came first; `from` if none is.
-fn halve(rows: &[i64], from: usize, end: usize, run: i64, id: i64) -> usize
-    requires { ⌜ from < end ⌝ }
-    ensures { λ r. ⌜ from ≤ r ⌝ }
-    ensures { λ r. ⌜ r < end ⌝ }
+// The row of this class with this ID among so many rows from a row on; n if none is.
+fn row_from(rows: &[i64], n: usize, from: usize, size: usize, class: i64, id: i64) -> usize
+    ensures { λ r. ⌜ (r < n → isRowOf (now (rows .entry)) class id r ≡ true) ⌝ }
 {
     let mut k = from;
-    let mut left = end - from;
-    while 1 < left {
-        let half = left / 2;
-        k = farther(rows, k, k + half, run, id);
-        left -= half;
-    }
-    k
-}
-
-// Twice a step, or `most` if that is less.
-fn doubled(step: usize, most: usize) -> usize
-    requires { ⌜ 1 ≤ step ⌝ }
-    requires { ⌜ step < most ⌝ }
-    ensures { λ r. ⌜ step < r ⌝ }
-    ensures { λ r. ⌜ r ≤ most ⌝ }
-{
-    if step < most - step {
-        return step + step;
-    }
-    most
-}
-
-// How far it is, in steps that double, from row k to one that is not up to this ID in this run; to row n if none is met.
-fn gallop(rows: &[i64], k: usize, n: usize, run: i64, id: i64) -> usize
-    requires { ⌜ k < n ⌝ }
-    ensures { λ r. ⌜ 1 ≤ r ⌝ }
-    ensures { λ r. ⌜ k + r ≤ n ⌝ }
-{
-    let left = n - k;
-    let mut step: usize = 1;
-    while step < left {
-        if !is_up_to(rows, k + step, run, id) {
-            return step;
+    let mut left = size;
+    while 0 < left {
+        if n <= k {
+            return n;
         }
-        step = doubled(step, left);
+        if tables::is_row_of(rows, k, class, id) {
+            return k;
+        }
+        k += 1;
+        left -= 1;
     }
-    left
+    n
 }
 
-// How far two numbers are apart.
-fn apart(a: u64, b: u64) -> u64 {
-    if a < b {
-        return b - a;
-    }
-    a - b
-}
-
-// Where an ID stands if IDs ascend or descend from row k on and none is left out; row k if that is not before row n.
-fn without_gaps(rows: &[i64], k: usize, n: usize, id: i64) -> usize
-    requires { ⌜ k < n ⌝ }
+// The row of this class with this ID in the group of a hint; n if none is.
+fn row_in(rows: &[i64], n: usize, mark: u16, class: i64, id: i64) -> usize
+    requires { ⌜ 1 ≤ mark ⌝ }
+    ensures { λ r. ⌜ (r < n → isRowOf (now (rows .entry)) class id r ≡ true) ⌝ }
 {
-    let first = signed::size(tables::number(rows, k, 1));
-    let far = apart(first, signed::size(id)) as usize;
-    if far < n - k {
-        return k + far;
-    }
-    k
+    let size = group_of(n);
+    row_from(rows, n, (mark - 1) as usize * size, size, class, id)
 }
 
-// Where a row may stand that a hint has missed: behind the hinted row, without gaps or in an order that ascends.
-fn guess_behind(rows: &[i64], k: usize, n: usize, run: i64, class: i64, id: i64) -> usize {
-    if n <= k {
-        return n;
+// The row of this class with this ID by its hint; n if no hint leads there.
+fn hinted(rows: &[i64], hints: &[u16], n: usize, class: i64, id: i64) -> usize
+    ensures { λ r. ⌜ (r < n → isRowOf (now (rows .entry)) class id r ≡ true) ⌝ }
+{
+    let mut at = home_of(hints.len(), class, id);
+    let mut left: usize = 64;
+    while 0 < left {
+        if hints.len() <= at {
+            return n;
+        }
+        let mark = hints[at];
+        if mark == 0 {
+            return n;
+        }
+        let k = row_in(rows, n, mark, class, id);
+        if k < n {
+            return k;
+        }
+        at += 1;
+        left -= 1;
     }
-    let place = without_gaps(rows, k, n, id);
-    if tables::is_row_of(rows, place, class, id) {
-        return place;
-    }
-    let far = gallop(rows, k, n, run, id);
-    halve(rows, k, k + far, run, id)
+    n
 }
 
-// Where a row of this class with this ID may stand in a run.
-fn guess_in(rows: &[i64], hints: &[i64], n: usize, run: i64, class: i64, id: i64) -> usize {
-    let place = hint_of(hints, run, id);
-    if tables::is_row_of(rows, place, class, id) {
-        return place;
-    }
-    guess_behind(rows, place, n, run, class, id)
-}
-
-// Where a row of this class with this ID may stand.
-fn guess_of(rows: &[i64], hints: &[i64], n: usize, class: i64, id: i64) -> usize {
-    let place = guess_in(rows, hints, n, class, class, id);
-    if !signed::same(class, 3) {
-        return place;
-    }
-    if tables::is_row_of(rows, place, class, id) {
-        return place;
-    }
-    guess_in(rows, hints, n, 4, class, id)
-}
-
-// The row of this class with this ID among n rows of which none repeats one; n if there is none. A guess is looked at first.
-pub fn find_once(rows: &[i64], hints: &[i64], n: usize, class: i64, id: i64) -> usize
+// The row of this class with this ID among n rows of which none repeats one; n if there is none. Where its hint leads is looked at first.
+pub fn find_once(rows: &[i64], hints: &[u16], n: usize, class: i64, id: i64) -> usize
     requires { ⌜ NoneAgain (now rows) n ⌝ }
     ensures { λ r. ⌜ r ≡ firstRow (now (rows .entry)) n class id ⌝ }
 {
-    let guess = guess_of(rows, hints, n, class, id);
-    if guess < n {
-        if tables::is_row_of(rows, guess, class, id) {
-            return guess;
-        }
+    let k = hinted(rows, hints, n, class, id);
+    if k < n {
+        return k;
     }
     tables::find(rows, n, class, id)
 }
 
 // The row that a reference meets among n rows of which none repeats an ID; n if it is 0 or meets none.
-pub fn met_row(rows: &[i64], hints: &[i64], n: usize, class: i64, id: i64) -> usize
+pub fn met_row(rows: &[i64], hints: &[u16], n: usize, class: i64, id: i64) -> usize
     requires { ⌜ NoneAgain (now rows) n ⌝ }
     ensures { λ r. ⌜ r ≡ metRow (now (rows .entry)) n class id ⌝ }
 {
@@ -197,7 +179,7 @@ pub fn met_row(rows: &[i64], hints: &[i64], n: usize, class: i64, id: i64) -> us
 }
 
 // Number c of the row that a reference meets; 0 if it meets none.
-pub fn met_number(rows: &[i64], hints: &[i64], n: usize, class: i64, id: i64, c: usize) -> i64
+pub fn met_number(rows: &[i64], hints: &[u16], n: usize, class: i64, id: i64, c: usize) -> i64
     requires { ⌜ NoneAgain (now rows) n ⌝ }
     ensures { λ r. ⌜ r ≡ metNumber (now (rows .entry)) n class id c ⌝ }
 {
@@ -211,7 +193,7 @@ pub fn met_number(rows: &[i64], hints: &[i64], n: usize, class: i64, id: i64, c:
 // The samples of the shape with this ID; none if there is no such shape.
 pub fn samples_of<'a>(
     rows: &[i64],
-    hints: &[i64],
+    hints: &[u16],
     n: usize,
     samples: &'a [i64],
     id: i64,

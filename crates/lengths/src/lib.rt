@@ -29,7 +29,7 @@ fn last_time(times: &[i64]) -> u64
 }
 
 // The steps that row k takes, whose time shape is number c: its last time, or as many as its amplitude has samples.
-fn steps(rows: &[i64], hints: &[i64], n: usize, samples: &[i64], k: usize, c: usize) -> RasterCount
+fn steps(rows: &[i64], hints: &[u16], n: usize, samples: &[i64], k: usize, c: usize) -> RasterCount
     requires { ⌜ NoneAgain (now rows) n ⌝ }
     ensures { λ r. ⌜ r .0 ≡ stepsAt (now (rows .entry)) n (now (samples .entry)) k c ⌝ }
 {
@@ -44,7 +44,7 @@ fn steps(rows: &[i64], hints: &[i64], n: usize, samples: &[i64], k: usize, c: us
 // The length of an RF event or a gradient, whose time shape is number c and whose delay is the next.
 fn shaped_length(
     rows: &[i64],
-    hints: &[i64],
+    hints: &[u16],
     n: usize,
     samples: &[i64],
     k: usize,
@@ -81,7 +81,7 @@ fn adc_length(rows: &[i64], k: usize) -> Nanos
 pub fn row_length(
     rasters: Rasters,
     rows: &[i64],
-    hints: &[i64],
+    hints: &[u16],
     n: usize,
     samples: &[i64],
     k: usize,

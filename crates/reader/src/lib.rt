@@ -22,7 +22,7 @@ fn ask_rules(
     rasters: Rasters,
     file: &[u8],
     rows: &[i64],
-    hints: &[i64],
+    hints: &[u16],
     n: usize,
     samples: &[i64],
     count: usize,
@@ -63,7 +63,7 @@ fn judge_rows(
     if failing < n {
         return Answer::Refused(Refusal::Shape, file::row_line(file, failing));
     }
-    let mut hints = [0i64; 32768];
+    let mut hints = [0u16; 524288];
     finding::note_rows(&mut hints, rows, n);
     let judged = ask_rules(edition, rasters, file, rows, &hints, n, samples, count);
     if judged.is_accepted() {

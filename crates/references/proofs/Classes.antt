@@ -1,17 +1,20 @@
 -- The class that a number refers to, by the answers of the code's tests. Assumes nothing.
 use Prim.Native.Nat.{ℕ, zero, suc, _≤_, _<_}
-use mathlib.Core.Bool.{true, false, not}
+use mathlib.Core.Bool.{Bool, true, false, not, cond, and-false}
 use mathlib.Core.List.{List}
 use mathlib.Core.Logic.{_⊎_, inl, inr}
-use mathlib.Core.Path.{_≡_, refl, ap, _∙_}
+use mathlib.Core.Path.{_≡_, refl, sym, ap, _∙_}
+use native.Mathlib.Omega.{arith}
 use borrow.Author.Tests.{lt-ltb, le-ltb, le-leb, lt-leb}
 use lib.Dec.{ltb, leb}
 use lib.IntN.{ℤ, pos}
 use lib.ListN.{getD}
 use Rattle.signed.specs.Signed.{sameZ}
+use Rattle.signed.proofs.Sign.{sameZ-refl}
 use Rattle.text.proofs.Cases.{lt-or-ge}
 use Rattle.shape.specs.declared.Edition.{Edition}
 use Rattle.tables.specs.Tables.{firstSuch, numberAt, firstRow, metNumber}
+use Rattle.tables.proofs.Found.{such-further}
 use Rattle.references.specs.References.{blockRefs, rfRefs, gradientRefs, codeRef, extensionRef, entryRefs, refOf, refAt, missesOf, missesAt, danglesAt}
 
 -- ---- numbers that refer to nothing
@@ -106,28 +109,47 @@ module _ (edition : Edition) (rows : List ℤ) (n k c : ℕ) (kind : ℤ) (p : k
         unfolding refAt refOf
         ref-none h = rw (← p, e, f, g, h)
 
--- ---- an ID that meets no row
-module _ (rows : List ℤ) (n : ℕ) (class id : ℤ) where
-  pub misses-class : sameZ class (pos 0) ≡ true → false ≡ missesOf rows n class id
-  unfolding missesOf
-  misses-class e = rw e
+-- ---- a number of row k that meets no row: whether it is 0 is asked first, then its class
+module _ (edition : Edition) (rows : List ℤ) (n k c : ℕ) (id : ℤ) (p : id ≡ numberAt rows k c) where
+  pub misses-nothing : sameZ id (pos 0) ≡ true → false ≡ missesAt edition rows n k c
+  unfolding missesAt missesOf
+  misses-nothing e = rw (← p, e) (sym (and-false (not (sameZ (refAt edition rows n k c) (pos 0)))))
 
-  module _ (e : sameZ class (pos 0) ≡ false) where
-    pub misses-nothing : sameZ id (pos 0) ≡ true → false ≡ missesOf rows n class id
-    unfolding missesOf
-    misses-nothing f = rw (e, f)
+  module _ (e : sameZ id (pos 0) ≡ false) (class : ℤ) (q : class ≡ refAt edition rows n k c) where
+    pub misses-class : sameZ class (pos 0) ≡ true → false ≡ missesAt edition rows n k c
+    unfolding missesAt missesOf
+    misses-class f = rw (← q, f)
 
-    module _ (f : sameZ id (pos 0) ≡ false) where
-      pub misses-found : (k : ℕ) → k ≡ firstRow rows n class id → leb n k ≡ missesOf rows n class id
-      unfolding missesOf
-      misses-found k p = rw (e, f, ← p) (turned n k)
-        where
-          turned : (n k : ℕ) → leb n k ≡ not (ltb k n)
-          turned n k = go (lt-or-ge k n)
-            where
-              go : (k < n) ⊎ (n ≤ k) → leb n k ≡ not (ltb k n)
-              go (inl h) = rw (lt-ltb k n h, lt-leb n k h)
-              go (inr h) = rw (le-ltb k n h, le-leb n k h)
+    pub misses-found : sameZ class (pos 0) ≡ false → (r : ℕ) → r ≡ firstRow rows n class id → leb n r ≡ missesAt edition rows n k c
+    unfolding missesAt missesOf
+    misses-found f r m = rw (← p, ← q, e, f, ← m) (turned n r)
+      where
+        turned : (n r : ℕ) → leb n r ≡ not (ltb r n)
+        turned n r = go (lt-or-ge r n)
+          where
+            go : (r < n) ⊎ (n ≤ r) → leb n r ≡ not (ltb r n)
+            go (inl h) = rw (lt-ltb r n h, lt-leb n r h)
+            go (inr h) = rw (le-ltb r n h, le-leb n r h)
+
+-- ---- a row's kind and its ID refer to none, so the numbers behind them are asked alone
+module _ (edition : Edition) (rows : List ℤ) (n k : ℕ) where
+  none-of : (a b c d : Bool) → cond a (pos 0) (cond b (pos 0) (cond c (pos 0) (cond d (pos 0) (pos 0)))) ≡ pos 0
+  none-of true b c d = refl
+  none-of false true c d = refl
+  none-of false false true d = refl
+  none-of false false false true = refl
+  none-of false false false false = refl
+
+  kind-none : missesAt edition rows n k 0 ≡ false
+  unfolding missesAt missesOf refAt refOf
+  kind-none = rw (none-of (sameZ (numberAt rows k 0) (pos 1)) (sameZ (numberAt rows k 0) (pos 2)) (sameZ (numberAt rows k 0) (pos 3)) (sameZ (numberAt rows k 0) (pos 7)), sameZ-refl (pos 0))
+
+  id-none : missesAt edition rows n k 1 ≡ false
+  unfolding missesAt missesOf refAt refOf
+  id-none = rw (none-of (sameZ (numberAt rows k 0) (pos 1)) (sameZ (numberAt rows k 0) (pos 2)) (sameZ (numberAt rows k 0) (pos 3)) (sameZ (numberAt rows k 0) (pos 7)), sameZ-refl (pos 0))
+
+  pub numbers-behind : firstSuch (missesAt edition rows n k) 2 10 ≡ firstSuch (missesAt edition rows n k) 0 12
+  numbers-behind = such-further (missesAt edition rows n k) 1 12 (omega arith) id-none ∙ such-further (missesAt edition rows n k) 0 12 (omega arith) kind-none
 
 -- ---- a row that refers to none
 module _ (edition : Edition) (rows : List ℤ) (n k : ℕ) (r : ℕ) (p : r ≡ firstSuch (missesAt edition rows n k) 0 12) where
@@ -138,8 +160,3 @@ module _ (edition : Edition) (rows : List ℤ) (n k : ℕ) (r : ℕ) (p : r ≡ 
   pub dangles-no : 12 ≤ r → false ≡ danglesAt edition rows n k
   unfolding danglesAt
   dangles-no h = rw (← p, le-ltb r 12 h)
-
--- the class and the number that were looked at
-pub misses-here : (edition : Edition) (rows : List ℤ) (n k c : ℕ) (class id : ℤ) → class ≡ refAt edition rows n k c → id ≡ numberAt rows k c → missesOf rows n class id ≡ missesAt edition rows n k c
-unfolding missesAt
-misses-here edition rows n k c class id p q = rw (p, q)

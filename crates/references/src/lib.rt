@@ -3,7 +3,7 @@ ghost use Rattle.tables.specs.Tables.{NoneAgain};
 ghost use mathlib.Core.Path.{_≡_};
 ghost use lib.IntN.{pos};
 ghost use lib.ListN.{getD};
-ghost use Rattle.references.specs.References.{durationRef, blockRefs, rfRefs, gradientRefs, extensionRef, entryRefs, refAt, missesOf, danglesAt};
+ghost use Rattle.references.specs.References.{durationRef, blockRefs, rfRefs, gradientRefs, extensionRef, entryRefs, refAt, missesAt, danglesAt};
 use shape::Edition;
 
 // The class of a block's second column: a delay in 1.3, a duration and no reference in 1.4.
@@ -56,7 +56,7 @@ fn gradient_ref(c: usize) -> i64
 }
 
 // The class of the rows that an entry of an extension type refers to, by the code of the extension; 0 where that is unknown.
-pub fn extension_ref(rows: &[i64], hints: &[i64], n: usize, number: i64) -> i64
+pub fn extension_ref(rows: &[i64], hints: &[u16], n: usize, number: i64) -> i64
     requires { ⌜ NoneAgain (now rows) n ⌝ }
     ensures { λ r. ⌜ r ≡ extensionRef (now (rows .entry)) n number ⌝ }
 {
@@ -74,7 +74,7 @@ pub fn extension_ref(rows: &[i64], hints: &[i64], n: usize, number: i64) -> i64
 }
 
 // The class that number c of an entry refers to, whose type is this.
-fn entry_ref(rows: &[i64], hints: &[i64], n: usize, number: i64, c: usize) -> i64
+fn entry_ref(rows: &[i64], hints: &[u16], n: usize, number: i64, c: usize) -> i64
     requires { ⌜ NoneAgain (now rows) n ⌝ }
     ensures { λ r. ⌜ r ≡ getD (entryRefs (now (rows .entry)) n number) c (pos 0) ⌝ }
 {
@@ -87,7 +87,7 @@ fn entry_ref(rows: &[i64], hints: &[i64], n: usize, number: i64, c: usize) -> i6
 }
 
 // The class that number c of row k refers to; 0 is none.
-pub fn ref_at(edition: Edition, rows: &[i64], hints: &[i64], n: usize, k: usize, c: usize) -> i64
+pub fn ref_at(edition: Edition, rows: &[i64], hints: &[u16], n: usize, k: usize, c: usize) -> i64
     requires { ⌜ NoneAgain (now rows) n ⌝ }
     ensures { λ r. ⌜ r ≡ refAt edition (now (rows .entry)) n k c ⌝ }
 {
@@ -107,29 +107,37 @@ pub fn ref_at(edition: Edition, rows: &[i64], hints: &[i64], n: usize, k: usize,
     0
 }
 
-// Does an ID meet none of n rows of a class? An ID of 0, and a class of 0, ask for none.
-fn misses(rows: &[i64], hints: &[i64], n: usize, class: i64, id: i64) -> bool
+// Does number c of row k refer to a row that is not among the n? Most numbers are 0, and ask for none.
+fn number_misses(
+    edition: Edition,
+    rows: &[i64],
+    hints: &[u16],
+    n: usize,
+    k: usize,
+    c: usize,
+) -> bool
     requires { ⌜ NoneAgain (now rows) n ⌝ }
-    ensures { λ r. ⌜ r ≡ missesOf (now (rows .entry)) n class id ⌝ }
+    ensures { λ r. ⌜ r ≡ missesAt edition (now (rows .entry)) n k c ⌝ }
 {
-    if signed::same(class, 0) {
+    let id = tables::number(rows, k, c);
+    if signed::same(id, 0) {
         return false;
     }
-    if signed::same(id, 0) {
+    let class = ref_at(edition, rows, hints, n, k, c);
+    if signed::same(class, 0) {
         return false;
     }
     n <= finding::find_once(rows, hints, n, class, id)
 }
 
-// Does row k refer to a row that is not among the n?
-pub fn dangles(edition: Edition, rows: &[i64], hints: &[i64], n: usize, k: usize) -> bool
+// Does row k refer to a row that is not among the n? Its kind and its ID refer to none.
+pub fn dangles(edition: Edition, rows: &[i64], hints: &[u16], n: usize, k: usize) -> bool
     requires { ⌜ NoneAgain (now rows) n ⌝ }
     ensures { λ r. ⌜ r ≡ danglesAt edition (now (rows .entry)) n k ⌝ }
 {
-    let mut c: usize = 0;
+    let mut c: usize = 2;
     while c < 12 {
-        let class = ref_at(edition, rows, hints, n, k, c);
-        if misses(rows, hints, n, class, tables::number(rows, k, c)) {
+        if number_misses(edition, rows, hints, n, k, c) {
             return true;
         }
         c += 1;

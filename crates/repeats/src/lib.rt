@@ -27,10 +27,7 @@ fn gives_row(did: Stepped, class: i64, id: i64) -> bool
         return false;
     }
     let cells = did.cells;
-    if signed::same(tables::row_class(&cells, 0), class) {
-        return signed::same(tables::number(&cells, 0, 1), id);
-    }
-    false
+    tables::is_row_of(&cells, 0, class, id)
 }
 
 // The line of the first row from a place on that is of the class and has the ID; 0 if none is.

@@ -1,6 +1,6 @@
 -- Numbers and classes of rows, by the answers of the code's tests. Assumes nothing.
 use Prim.Native.Nat.{ℕ, _+_, _*_, _/_, _≤_, _<_}
-use mathlib.Core.Bool.{Bool, true, false, cond, _&&_}
+use mathlib.Core.Bool.{Bool, true, false, cond, _&&_, and-true, and-false}
 use mathlib.Core.List.{List}
 use mathlib.Core.Path.{_≡_, refl, sym}
 use borrow.Author.Tests.{lt-ltb, le-ltb}
@@ -48,15 +48,15 @@ module _ (rows : List ℤ) (k : ℕ) (kind : ℤ) (p : kind ≡ numberAt rows k 
       unfolding classAt classOf
       class-set g = rw (← p, ← q, e, f, g)
 
--- ---- a row of a class with an ID
-module _ (rows : List ℤ) (class id : ℤ) (k : ℕ) (held : ℤ) (p : held ≡ classAt rows k) where
-  pub row-other : sameZ held class ≡ false → false ≡ isRowOf rows class id k
+-- ---- a row of a class with an ID, which is looked at first
+module _ (rows : List ℤ) (class id : ℤ) (k : ℕ) (own : ℤ) (p : own ≡ numberAt rows k 1) where
+  pub row-other : sameZ own id ≡ false → false ≡ isRowOf rows class id k
   unfolding isRowOf
-  row-other e = rw (← p, e)
+  row-other e = rw (← p, e, and-false)
 
-  pub row-same : sameZ held class ≡ true → (own : ℤ) → own ≡ numberAt rows k 1 → sameZ own id ≡ isRowOf rows class id k
+  pub row-same : sameZ own id ≡ true → (held : ℤ) → held ≡ classAt rows k → sameZ held class ≡ isRowOf rows class id k
   unfolding isRowOf
-  row-same e own q = rw (← p, e, q)
+  row-same e held q = rw (← p, e, and-true, q)
 
 -- what was compared, as it was read
 pub compared : {r : Bool} (a b x y : ℤ) → r ≡ sameZ x y → x ≡ a → y ≡ b → sameZ a b ≡ r

@@ -72,8 +72,8 @@ pub fn row_class(rows: &[i64], k: usize) -> i64
 pub fn is_row_of(rows: &[i64], k: usize, class: i64, id: i64) -> bool
     ensures { λ r. ⌜ r ≡ isRowOf (now (rows .entry)) class id k ⌝ }
 {
-    if signed::same(row_class(rows, k), class) {
-        return signed::same(number(rows, k, 1), id);
+    if signed::same(number(rows, k, 1), id) {
+        return signed::same(row_class(rows, k), class);
     }
     false
 }

@@ -38,16 +38,16 @@ chain-length-returns-2 : (t : ℕ) → chain-length-lts.Need-returns-2 (chain-le
 chain-length-returns-2 t c = chain-past _ _ _ _ _ _ (c .before .if1 .left) (c .if2 .taken)
 
 chain-length-entry-length-requires : (t : ℕ) → chain-length-lts.Need-entry-length-requires (chain-length-calls t) (chain-length-at t) chain-length.Post
-chain-length-entry-length-requires t c κs = c .before .before .pre .1
+chain-length-entry-length-requires t c κs = c .before .before .before .pre .1
 
 chain-length-next-entry-requires : (t : ℕ) → chain-length-lts.Need-next-entry-requires (chain-length-calls t) (chain-length-at t) chain-length.Post
-chain-length-next-entry-requires t c κs = c .before .before .before .pre .1
+chain-length-next-entry-requires t c κs = c .before .before .before .before .pre .1
 
 chain-length-sub-chain-length : (t : ℕ) → chain-length-lts.Need-sub-chain-length (chain-length-calls t) (chain-length-at t) chain-length.Post
 chain-length-sub-chain-length t c = omega arith
 
 chain-length-chain-length-requires : (t : ℕ) → chain-length-lts.Need-chain-length-requires (chain-length-calls t) (chain-length-at t) chain-length.Post
-chain-length-chain-length-requires t c κs = (omega arith, c .before .before .before .before .pre .1)
+chain-length-chain-length-requires t c κs = (omega arith, c .before .before .before .before .before .pre .1)
 
 chain-length-longer-requires : (t : ℕ) → chain-length-lts.Need-longer-requires (chain-length-calls t) (chain-length-at t) chain-length.Post
 chain-length-longer-requires t c κs = tt

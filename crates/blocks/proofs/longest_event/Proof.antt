@@ -2,7 +2,6 @@
 use borrow.Author.Needs.{needs}
 use Prim.Native.Nat.{_-_}
 use native.Mathlib.Omega.{arith}
-use Rattle.signed.proofs.Machine.{rd-at}
 use Rattle.blocks.proofs.Lasting.{Longest, longest-start, longest-turn, longest-end}
 use Rattle.blocks.proofs.longest_event.Statement.{statement}
 use Rattle.blocks.proofs.longest_event.Tie as tie
@@ -16,14 +15,8 @@ abbrev μ-loop : tie.MeasureT-loop
 loop-holds : tie.Need-loop-holds Inv-loop μ-loop
 loop-holds c = longest-start _ _ _ _ _ _
 
-ref-at-requires : tie.Need-ref-at-requires Inv-loop μ-loop
-ref-at-requires c κs = search needs
-
-number-requires : tie.Need-number-requires Inv-loop μ-loop
-number-requires c κs = search needs
-
-reference-length-requires : tie.Need-reference-length-requires Inv-loop μ-loop
-reference-length-requires c κs = search needs
+number-length-requires : tie.Need-number-length-requires Inv-loop μ-loop
+number-length-requires c κs = search needs
 
 longer-requires : tie.Need-longer-requires Inv-loop μ-loop
 longer-requires c κs = search needs
@@ -36,10 +29,8 @@ loop-less c = omega arith
 
 loop-again : tie.Need-loop-again Inv-loop μ-loop
 loop-again c = let r = c .before in
-    let i = r .before .number in
-    let x = r .before .before in
-    let l = x .before in
-    longest-turn _ _ _ _ _ _ _ _ _ _ _ _ _ _ (l .before .loop .inv) (l .loop-test .taken) (x .ref-at .ensures) (rd-at _ (x .ref-at .ok)) (i .ensures) (rd-at _ (i .ok)) (r .reference-length .ensures) (c .longer .ensures)
+    let l = r .before in
+    longest-turn _ _ _ _ _ _ _ _ _ _ (l .before .loop .inv) (l .loop-test .taken) (r .number-length .ensures) (c .longer .ensures)
 
 returns : tie.Need-returns Inv-loop μ-loop
 returns c = longest-end _ _ _ _ _ _ _ _ (c .before .loop .inv) (c .loop-test .left)
@@ -51,9 +42,7 @@ longest-event-spec =
     Inv-loop
     μ-loop
     loop-holds
-    ref-at-requires
-    number-requires
-    reference-length-requires
+    number-length-requires
     longer-requires
     add-c
     loop-less

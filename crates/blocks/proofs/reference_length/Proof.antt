@@ -18,7 +18,7 @@ chain-length-requires c κs = search needs
 returns : tie.Need-returns
 returns c = let m = c .before in
     let s = m .before .before in
-    let a = s .before .fits in
+    let a = s .before .before .fits in
     c .chain-length .ensures ∙ reference-chain _ _ _ _ (rd-is (a .class)) (rd-is (a .id)) _ (m .met-row .ensures) (sym (s .same .ensures) ∙ m .before .if1 .taken)
 
 met-length-requires : tie.Need-met-length-requires
@@ -26,7 +26,7 @@ met-length-requires c κs = search needs
 
 returns-2 : tie.Need-returns-2
 returns-2 c = let s = c .before .before in
-    let a = s .before .fits in
+    let a = s .before .before .fits in
     c .met-length .ensures ∙ reference-event _ _ _ _ (rd-is (a .class)) (rd-is (a .id)) (sym (s .same .ensures) ∙ c .before .if1 .left)
 
 pub reference-length-spec : {M : Type 1} → statement M

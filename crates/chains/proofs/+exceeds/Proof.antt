@@ -28,13 +28,13 @@ exceeds-returns : (t : ℕ) → exceeds-lts.Need-returns (calls t) (exceeds-at t
 exceeds-returns t c = exceeds-all _ _ _ _ (c .if1 .taken)
 
 exceeds-next-entry-requires : (t : ℕ) → exceeds-lts.Need-next-entry-requires (calls t) (exceeds-at t) exceeds.Post
-exceeds-next-entry-requires t c κs = c .before .pre .1
+exceeds-next-entry-requires t c κs = c .before .before .pre .1
 
 exceeds-sub-exceeds : (t : ℕ) → exceeds-lts.Need-sub-exceeds (calls t) (exceeds-at t) exceeds.Post
 exceeds-sub-exceeds t c = omega arith
 
 exceeds-exceeds-requires : (t : ℕ) → exceeds-lts.Need-exceeds-requires (calls t) (exceeds-at t) exceeds.Post
-exceeds-exceeds-requires t c κs = (omega arith, c .before .before .before .pre .1)
+exceeds-exceeds-requires t c κs = (omega arith, c .before .before .before .before .pre .1)
 
 exceeds-returns-2 : (t : ℕ) → exceeds-lts.Need-returns-2 (calls t) (exceeds-at t) exceeds.Post
 exceeds-returns-2 t c =

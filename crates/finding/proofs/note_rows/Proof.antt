@@ -1,5 +1,5 @@
 -- `finding::note_rows` meets its contract. The loop's invariant: the rows that are left give the whole. Assumes nothing.
-use native.Mathlib.Omega.{arith}
+use Prim.Native.Nat.{_-_}
 use Rattle.finding.proofs.Noting.{Left, left-start, left-turn, left-end}
 use borrow.Author.Needs.{needs}
 use Rattle.finding.proofs.note_rows.Statement.{statement}
@@ -9,28 +9,30 @@ abbrev Inv-loop : tie.InvT-loop
 Inv-loop hints₀ rows n k₀ hints k = Left hints₀ rows n hints k
 
 abbrev μ-loop : tie.MeasureT-loop
-μ-loop hints₀ rows n k₀ hints k = k
+μ-loop hints₀ rows n k₀ hints k = n - k
 
 loop-holds : tie.Need-loop-holds Inv-loop μ-loop
 loop-holds c = left-start _ _ _
 
-sub-k : tie.Need-sub-k Inv-loop μ-loop
-sub-k c = search needs
-
 note-row-requires : tie.Need-note-row-requires Inv-loop μ-loop
 note-row-requires c κs = search needs
+
+add-k : tie.Need-add-k Inv-loop μ-loop
+add-k c = search needs
 
 loop-less : tie.Need-loop-less Inv-loop μ-loop
 loop-less c = search needs
 
 loop-again : tie.Need-loop-again Inv-loop μ-loop
-loop-again c = let l = c .before .before .before in left-turn (l .before .loop .inv) (c .before .note-row .ensures) (l .loop-test .taken)
+loop-again c = let r = c .before .before in
+    let l = r .before .before in
+    left-turn (l .before .loop .inv) (r .note-row .ensures) (l .loop-test .taken)
 
 same-length : tie.Need-same-length Inv-loop μ-loop
 same-length c = c .before .loop .inv .long
 
 returns : tie.Need-returns Inv-loop μ-loop
-returns c = left-end (c .before .loop .inv) (omega (arith, c .loop-test .left))
+returns c = left-end (c .before .loop .inv) (c .loop-test .left)
 
 pub note-rows-spec : {M : Type 1} → statement M
 note-rows-spec =
@@ -39,8 +41,8 @@ note-rows-spec =
     Inv-loop
     μ-loop
     loop-holds
-    sub-k
     note-row-requires
+    add-k
     loop-less
     loop-again
     same-length

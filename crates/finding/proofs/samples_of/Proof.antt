@@ -13,13 +13,13 @@ samples-at-requires : tie.Need-samples-at-requires
 samples-at-requires c κs = search needs
 
 returns : tie.Need-returns
-returns c = let m = c .before .before in c .samples-at .ensures ∙ samples-met _ _ _ (rd-is (m .before .fits .id)) _ (m .met-row .ensures) (c .before .if1 .taken)
+returns c = let m = c .before .before in c .samples-at .ensures ∙ samples-met _ _ _ (rd-is (m .before .before .fits .id)) _ (m .met-row .ensures) (c .before .if1 .taken)
 
 slice-aggregate-result : tie.Need-slice-aggregate-result
 slice-aggregate-result c = search needs
 
 returns-2 : tie.Need-returns-2
-returns-2 c = let m = c .before .before in samples-unmet _ _ _ (rd-is (m .before .fits .id)) _ (m .met-row .ensures) (c .before .if1 .left)
+returns-2 c = let m = c .before .before in samples-unmet _ _ _ (rd-is (m .before .before .fits .id)) _ (m .met-row .ensures) (c .before .if1 .left)
 
 pub samples-of-spec : {M : Type 1} → statement M
 samples-of-spec =

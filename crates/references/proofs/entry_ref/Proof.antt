@@ -22,7 +22,7 @@ returns : tie.Need-returns
 returns c = at _ _ _ (c .match .keys1)
 
 returns-2 : tie.Need-returns-2
-returns-2 c = let d = c .extension-ref in rd-at _ (d .ok) ∙ d .ensures ∙ rw (rd-is (c .before .before .fits .number)) (at _ _ _ (c .before .match .keys2))
+returns-2 c = let d = c .extension-ref in rd-at _ (d .ok) ∙ d .ensures ∙ rw (rd-is (c .before .before .before .fits .number)) (at _ _ _ (c .before .match .keys2))
 
 returns-3 : tie.Need-returns-3
 returns-3 c = at _ _ _ (c .match .keys3)

@@ -17,7 +17,7 @@ loop-holds : tie.Need-loop-holds Inv-loop μ-loop
 loop-holds c = fill-start _ _ _ _ _
 
 fill-row-requires : tie.Need-fill-row-requires Inv-loop μ-loop
-fill-row-requires c κs = let l = c .before .before in once-same _ _ (l .loop .inv .alike) _ (l .before .pre)
+fill-row-requires c κs = let l = c .before .before in once-same _ _ (l .loop .inv .alike) _ (l .before .before .pre)
 
 add-k : tie.Need-add-k Inv-loop μ-loop
 add-k c = search needs
