@@ -9,7 +9,7 @@ use borrow.Author.Tests.{eqb-false, ne-eqb, ltb-false, le-ltb}
 use lib.Dec.{eqb, ltb}
 use lib.IntN.{ℤ}
 use lib.ListN.{length}
-use Rattle.text.proofs.Cases.{true-or-false, eq-or-ne}
+use Rattle.text.proofs.Cases.{true-or-false, eq-or-ne, or-none}
 use Rattle.decimals.specs.Decimal.{decimalOf}
 use Rattle.numeral.specs.Worth.{wholeOf}
 use Rattle.numeral.specs.declared.Natural.{Natural}
@@ -36,7 +36,7 @@ use Rattle.repeats.proofs.Twice.{duplicate-of-is}
 use Rattle.repeats.proofs.Laid.{duplicate-laid}
 use Rattle.questions.specs.Asked.{isBig, anyBlock, isMissing, lacksRoom, badSite}
 use Rattle.demands.specs.Keeping.{SoundSite, HasBlock, RastersGood}
-use Rattle.demands.proofs.Ruling.{not-is, or-none, editions-differ}
+use Rattle.demands.proofs.Ruling.{not-is, editions-differ}
 
 -- ---- two tests that both say no
 or-both : {a b : Bool} → a ≡ false → b ≡ false → a || b ≡ false

@@ -11,7 +11,7 @@ use lib.Dec.{eqb, ltb, leb}
 use lib.IntN.{ℤ, pos, negsuc, natAbs}
 use lib.ListN.{length, getD}
 use lib.Signed.{ltZ, nonNeg}
-use Rattle.text.proofs.Cases.{true-or-false, lt-or-ge, and-both}
+use Rattle.text.proofs.Cases.{true-or-false, lt-or-ge, and-both, or-none}
 use Rattle.signed.specs.Signed.{sameZ}
 use Rattle.signed.proofs.Sign.{sameZ-refl, sameZ-true}
 use Rattle.unit.proofs.Exact.{micros-exact}
@@ -272,10 +272,6 @@ module _ (rows : List ℤ) (k c raster : ℕ) (few : natAbs (numberAt rows k c) 
   of-micros : Multiple raster (microsAt rows k c) → microsOff rows k raster c ≡ false
   unfolding microsOff microsAt
   of-micros m = rw (micros-exact (natAbs (numberAt rows k c)) few) (of-on (natAbs (numberAt rows k c) * 1000) raster some m)
-
-pub or-none : (a b : Bool) → a || b ≡ false → (a ≡ false) × (b ≡ false)
-or-none true b e = absurd (true≢false e)
-or-none false b e = (refl, e)
 
 -- one of four numbers
 by-four : (P : ℕ → Type 0) → P 4 → P 5 → P 6 → P 7 → (c : ℕ) → 4 ≤ c → c ≤ 7 → P c

@@ -8,7 +8,7 @@ use native.Mathlib.Omega.{arith}
 use borrow.Author.Tests.{eqb-true, ne-eqb}
 use lib.Dec.{eqb}
 use lib.ListN.{length}
-use Rattle.text.proofs.Cases.{lt-or-ge}
+use Rattle.text.proofs.Cases.{lt-or-ge, or-none}
 use Rattle.text.specs.Words.{sameBytes}
 use Rattle.text.proofs.Words.{same-refl}
 use Rattle.numeral.specs.Digits.{signLen}
@@ -20,7 +20,7 @@ use Rattle.definitions.specs.Definitions.{Definition, definitionsOf, siteDefini
 use Rattle.rasters.specs.Rasters.{gradientKey, rfKey, adcKey, blockKey, wholeOr0, worthOf, rasterOf, textOf, rastersOf, lacks}
 use Rattle.needs.specs.Needs.{besides, lacksFor}
 use Rattle.demands.specs.Keeping.{RastersGood}
-use Rattle.demands.proofs.Ruling.{or-none, editions-differ}
+use Rattle.demands.proofs.Ruling.{editions-differ}
 use Rattle.demands.proofs.Questions.{rasters-of}
 use Rattle.restated_laws.proofs.DefinedBack.{AllDefining, none-defined, one-defined, numbered}
 use Rattle.restated_laws.proofs.DefinedFound.{file-defining, HasRasters}

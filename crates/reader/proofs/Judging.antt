@@ -1,7 +1,7 @@
 -- One question after another: what is answered where one is reached, and what the tables hold then. Assumes nothing.
 use Prim.Native.Nat.{ℕ, _+_, _-_, _/_, _≤_, _<_}
 use mathlib.Core.Bool.{Bool, true, false, cond, true≢false}
-use mathlib.Core.List.{List, _∷_}
+use mathlib.Core.List.{List, [], _∷_}
 use mathlib.Core.Path.{_≡_, refl, sym, ap, _∙_}
 use mathlib.Core.Logic.{⊎-elim}
 use native.Mathlib.Numerals.{add-one}
@@ -74,6 +74,15 @@ module _ (first : Rule → ℕ) (n : ℕ) (rs : List Placed) (accepted : Answer)
     pub rules-kept : 6 ≤ i → accepted ≡ firstRefused inOrder first n rs accepted
     unfolding firstRefused inOrder
     rules-kept h = ap (λ (l : List Rule). firstRefused l first n rs accepted) (sym (drop-of-length-le inOrder h)) ∙ w
+
+  -- where no rule is broken, none is refused
+  pub rules-all-kept : ((rule : Rule) → n ≤ first rule) → accepted ≡ firstRefused inOrder first n rs accepted
+  unfolding firstRefused
+  rules-all-kept h = go inOrder
+    where
+      go : (l : List Rule) → accepted ≡ firstRefused l first n rs accepted
+      go [] = refl
+      go (rule ∷ l) = rw (le-ltb (first rule) n (h rule)) (go l)
 
 -- ---- SHAPE, and behind it the rules
 module _ (e : Edition) (q : Rasters) (file : List ℕ) (n count : ℕ) (rows l : List ℤ) (k : ℕ) (p : k ≡ firstFailing e file rows (length l) n) where

@@ -23,7 +23,7 @@ use Rattle.sayable.specs.Sayable.{isKind, nanosAt, isUnknown, hasTime, offMicro
 use Rattle.sayable.proofs.Saying.{in-13, in-14}
 use Rattle.durations.specs.Durations.{firstUse, usesIn, delayNumber}
 use Rattle.said.specs.Said.{stepsOf, durationOf}
-use Rattle.demands.proofs.Ruling.{or-none}
+use Rattle.text.proofs.Cases.{or-none}
 use Rattle.restated_laws.proofs.SectionBack.{such-none-of, uses-most}
 use Rattle.restated_source.proofs.Listing.{CanSay}
 

@@ -2,3 +2,4 @@
 pub mod Alike
 pub mod Filling
 pub mod First
+pub mod Kept

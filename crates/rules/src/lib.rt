@@ -1,8 +1,9 @@
 // The rules over the tables, from REFERENCE to OUTLASTS: each is asked of one row, and answered at the first row for which it is broken. And what
 // the tables hold when all have passed: a block's length.
-ghost use Rattle.tables.specs.Tables.{NoneAgain};
+ghost use Rattle.tables.specs.Tables.{firstSuch, NoneAgain};
 ghost use mathlib.Core.Path.{_≡_};
 ghost use Rattle.rules.specs.Rules.{ruleNumber, alignBroken, outlastsBroken, isBroken, firstBroken};
+ghost use Rattle.rules.specs.Inside.{breaksAny};
 ghost use Rattle.rules.specs.Filled.{lengthNumber, withLength, filled};
 use shape::Edition;
 use unit::Rasters;
@@ -84,6 +85,59 @@ pub fn is_broken(
         Rule::Long => blocks::is_long(edition, rasters, rows, hints, n, samples, k),
         Rule::Outlasts => breaks_outlasts(edition, rasters, rows, hints, n, samples, k),
     }
+}
+
+// Does row k, of n rows, break any rule?
+fn breaks_any(
+    edition: Edition,
+    rasters: Rasters,
+    rows: &[i64],
+    hints: &[u16],
+    n: usize,
+    samples: &[i64],
+    k: usize,
+) -> bool
+    requires { ⌜ NoneAgain (now rows) n ⌝ }
+    ensures { λ r. ⌜ r ≡ breaksAny edition rasters (now (rows .entry)) n (now (samples .entry)) k ⌝ }
+{
+    if references::dangles(edition, rows, hints, n, k) {
+        return true;
+    }
+    if chains::loops(rows, hints, n, k) {
+        return true;
+    }
+    if events::misfits(rows, hints, n, samples, k) {
+        return true;
+    }
+    if breaks_align(edition, rasters, rows, k) {
+        return true;
+    }
+    if blocks::is_long(edition, rasters, rows, hints, n, samples, k) {
+        return true;
+    }
+    breaks_outlasts(edition, rasters, rows, hints, n, samples, k)
+}
+
+// The first of n rows that breaks any rule; n if none does. Each row is looked at once.
+pub fn first_breaking(
+    edition: Edition,
+    rasters: Rasters,
+    rows: &[i64],
+    hints: &[u16],
+    n: usize,
+    samples: &[i64],
+) -> usize
+    requires { ⌜ NoneAgain (now rows) n ⌝ }
+    ensures { λ r. ⌜ r ≡ firstSuch (breaksAny edition rasters (now (rows .entry)) n (now (samples .entry))) 0 n ⌝ }
+{
+    let mut k: usize = 0;
+    while k < n {
+        if breaks_any(edition, rasters, rows, hints, n, samples, k) {
+            return k;
+        }
+        k += 1;
+    }
+    n
 }
 
 // The first of n rows that breaks a rule; n if none does.

@@ -1,6 +1,6 @@
 -- Tests and their two sides. Assumes nothing.
 use Prim.Native.Nat.{ℕ, _<_, _≤_}
-use mathlib.Core.Bool.{Bool, true, false, cond, _&&_, false≢true}
+use mathlib.Core.Bool.{Bool, true, false, cond, _&&_, _||_, false≢true, true≢false}
 use mathlib.Core.Path.{_≡_, refl}
 use mathlib.Core.Logic.{_⊎_, inl, inr}
 use lib.Dec.{eqb, ltb}
@@ -28,6 +28,11 @@ eq-or-ne n m = go (eqb n m) refl
 pub and-both : (x y : Bool) → x && y ≡ true → (x ≡ true) × (y ≡ true)
 and-both true y e = (refl, e)
 and-both false y e = absurd (false≢true e)
+
+-- none of two
+pub or-none : (x y : Bool) → x || y ≡ false → (x ≡ false) × (y ≡ false)
+or-none true y e = absurd (true≢false e)
+or-none false y e = (refl, e)
 
 -- an answer that is not the other one was picked
 pub cond-yes : {A : Type 0} (b : Bool) (x : A) {y z : A} → (y ≡ z → ⊥) → cond b x y ≡ z → (b ≡ true) × (x ≡ z)

@@ -1,0 +1,83 @@
+-- Rules that no row breaks, where each row was asked for all of them at once. Assumes nothing.
+use Prim.Native.Nat.{ℕ, _+_, _≤_, _<_}
+use mathlib.Core.Bool.{Bool, true, false, _||_, true≢false}
+use mathlib.Core.List.{List}
+use mathlib.Core.Logic.{⊎-elim}
+use mathlib.Core.Path.{_≡_, refl, sym, _∙_}
+use native.Mathlib.Omega.{arith}
+use lib.IntN.{ℤ}
+use Rattle.text.proofs.Cases.{lt-or-ge, or-none}
+use Rattle.unit.specs.declared.Rasters.{Rasters}
+use Rattle.shape.specs.declared.Edition.{Edition}
+use Rattle.tables.specs.Tables.{firstSuch}
+use Rattle.tables.proofs.Found.{first-is}
+use Rattle.chains.specs.Chains.{loopsAt}
+use Rattle.references.specs.References.{danglesAt}
+use Rattle.events.specs.Use.{misfitsAt}
+use Rattle.blocks.specs.Blocks.{isLong}
+use Rattle.rules.specs.Rules.{alignBroken, outlastsBroken, isBroken, firstBroken}
+use Rattle.rules.specs.Inside.{breaksAny}
+use Rattle.rules.specs.declared.Rule.{Rule}
+use Rattle.rules.specs.declared.Rule.the-variants.{Reference, Loop, Use, Align, Long, Outlasts}
+
+-- ---- whether row k breaks any rule, by the answers of the code's tests
+module _ (e : Edition) (q : Rasters) (rows : List ℤ) (n : ℕ) (samples : List ℤ) (k : ℕ) where
+  module _ {a : Bool} (p : a ≡ danglesAt e rows n k) where
+    pub any-reference : a ≡ true → true ≡ breaksAny e q rows n samples k
+    unfolding breaksAny isBroken
+    any-reference h = rw (← p, h)
+
+    module _ (x : a ≡ false) {b : Bool} (r : b ≡ loopsAt rows n k) where
+      pub any-loop : b ≡ true → true ≡ breaksAny e q rows n samples k
+      unfolding breaksAny isBroken
+      any-loop h = rw (← p, x, ← r, h)
+
+      module _ (y : b ≡ false) {c : Bool} (s : c ≡ misfitsAt rows n samples k) where
+        pub any-use : c ≡ true → true ≡ breaksAny e q rows n samples k
+        unfolding breaksAny isBroken
+        any-use h = rw (← p, x, ← r, y, ← s, h)
+
+        module _ (z : c ≡ false) {d : Bool} (t : d ≡ alignBroken e q rows k) where
+          pub any-align : d ≡ true → true ≡ breaksAny e q rows n samples k
+          unfolding breaksAny isBroken
+          any-align h = rw (← p, x, ← r, y, ← s, z, ← t, h)
+
+          module _ (w : d ≡ false) {f : Bool} (u : f ≡ isLong e q rows n samples k) where
+            pub any-long : f ≡ true → true ≡ breaksAny e q rows n samples k
+            unfolding breaksAny isBroken
+            any-long h = rw (← p, x, ← r, y, ← s, z, ← t, w, ← u, h)
+
+            pub any-outlasts : f ≡ false → {g : Bool} → g ≡ outlastsBroken e q rows n samples k → g ≡ breaksAny e q rows n samples k
+            unfolding breaksAny isBroken
+            any-outlasts h o = rw (← p, x, ← r, y, ← s, z, ← t, w, ← u, h, ← o)
+
+-- ---- a row that breaks none keeps each
+module _ (e : Edition) (q : Rasters) (rows : List ℤ) (n : ℕ) (samples : List ℤ) where
+  abbrev Broken : Rule → ℕ → Bool
+  Broken rule k = isBroken rule e q rows n samples k
+
+  keeps : (rule : Rule) (k : ℕ) → breaksAny e q rows n samples k ≡ false → isBroken rule e q rows n samples k ≡ false
+  unfolding breaksAny
+  keeps rule k h =
+      let five = or-none (Broken Reference k) (Broken Loop k || (Broken Use k || (Broken Align k || (Broken Long k || Broken Outlasts k)))) h in
+      let four = or-none (Broken Loop k) (Broken Use k || (Broken Align k || (Broken Long k || Broken Outlasts k))) (five .1) in
+      let three = or-none (Broken Use k) (Broken Align k || (Broken Long k || Broken Outlasts k)) (four .1) in
+      let two = or-none (Broken Align k) (Broken Long k || Broken Outlasts k) (three .1) in
+      go rule (five .0) (four .0) (three .0) (two .0) (or-none (Broken Long k) (Broken Outlasts k) (two .1))
+    where
+      go : (r : Rule) → Broken Reference k ≡ false → Broken Loop k ≡ false → Broken Use k ≡ false → Broken Align k ≡ false → (Broken Long k ≡ false) × (Broken Outlasts k ≡ false) → Broken r k ≡ false
+      go Reference a b c d f = a
+      go Loop a b c d f = b
+      go Use a b c d f = c
+      go Align a b c d f = d
+      go Long a b c d f = f .0
+      go Outlasts a b c d f = f .1
+
+  -- so where none of n rows breaks any, no rule is broken
+  pub none-broken : {r : ℕ} → r ≡ firstSuch (breaksAny e q rows n samples) 0 n → n ≤ r → (rule : Rule) → n ≤ firstBroken rule e q rows n samples
+  unfolding firstBroken
+  none-broken {r} p h rule =
+      let first = firstSuch (isBroken rule e q rows n samples) 0 n in
+      let any = first-is (breaksAny e q rows n samples) 0 n in
+      let own = first-is (isBroken rule e q rows n samples) 0 n in
+      ⊎-elim (λ (l : first < n). absurd (true≢false (sym (own .here (omega arith)) ∙ keeps rule first (any .before first (omega arith) (omega arith))))) (λ (l : n ≤ first). l) (lt-or-ge first n)
