@@ -265,13 +265,16 @@ fn word_count(did: Stepped) -> usize
     }
 }
 
-// How many words a file has, for the choice of parts.
-fn count_words(file: &[u8]) -> usize {
+// How many words a file has up to the end of the section in which those of this sort stand, for the choice of parts.
+fn count_words(file: &[u8], sort: Sort) -> usize {
     let mut st = places::start();
     let mut at: usize = 0;
     let mut n: usize = 1;
     let mut count: usize = 0;
     while at < file.len() {
+        if is_left(st, sort) {
+            return count;
+        }
         let line = text::next_line(file, at);
         let stop = line.stop;
         let behind = line.next;
@@ -279,9 +282,6 @@ fn count_words(file: &[u8]) -> usize {
             at = behind;
             n += 1;
         } else {
-            if all_left(st) {
-                return count;
-            }
             let did = grammar::step(st, n, &file[at..stop]);
             count += word_count(did);
             let next = did.next;
@@ -291,6 +291,34 @@ fn count_words(file: &[u8]) -> usize {
         }
     }
     count
+}
+
+// How many extensions row k names: one or none.
+fn name_count(rows: &[i64], k: usize) -> usize
+    ensures { λ r. ⌜ r ≤ 1 ⌝ }
+{
+    match row_names(tables::number(rows, k, 0)) {
+        Once::Nothing => 0,
+        Once::Word(_) => 1,
+    }
+}
+
+// How many of n rows name an extension, for the choice of parts.
+fn count_names(rows: &[i64], n: usize) -> usize {
+    let mut count: usize = 0;
+    let mut k: usize = 0;
+    while k < n {
+        count += name_count(rows, k);
+        k += 1;
+    }
+    count
+}
+
+// In how many parts so many keys and names are kept.
+fn parts_for(keys: usize, names: usize) -> u64
+    ensures { λ r. ⌜ 1 ≤ r ⌝ }
+{
+    1 + (keys / 16384 + names / 16384) as u64
 }
 
 // The earlier of two lines, where 0 is none.
@@ -330,7 +358,8 @@ pub fn word_again(file: &[u8]) -> usize
     requires { ⌜ soundOf (now file) ≡ true ⌝ }
     ensures { λ r. ⌜ r ≡ againLine (wordsOf (now (file .entry))) ⌝ }
 {
-    first_of_parts(file, 1 + (count_words(file) / 16384) as u64)
+    let keys = count_words(file, Sort::Key);
+    first_of_parts(file, parts_for(keys, count_words(file, Sort::Name)))
 }
 
 // The first line at which a key, a name, or the ID or type of one of n rows is met again in its class; 0 if there is none.
@@ -339,7 +368,8 @@ pub fn first_duplicate(file: &[u8], rows: &[i64], n: usize) -> usize
     ensures { λ r. ⌜ r ≡ duplicateLine (now (file .entry)) (now (rows .entry)) n ⌝ }
 {
     let k = again::first_again(rows, n);
-    let word = word_again(file);
+    let keys = count_words(file, Sort::Key);
+    let word = first_of_parts(file, parts_for(keys, count_names(rows, n)));
     if k < n {
         return earlier(file::row_line(file, k), word);
     }

@@ -10,13 +10,13 @@ use Rattle.duplicates.proofs.count_words.Statement.{statement}
 use Rattle.duplicates.proofs.count_words.Tie as tie
 
 abbrev Inv-loop : tie.InvT-loop
-Inv-loop file st₀ at₀ n₀ count₀ st at n count = Within file at n × (count < n)
+Inv-loop file sort st₀ at₀ n₀ count₀ st at n count = Within file at n × (count < n)
 
 abbrev μ-loop : tie.MeasureT-loop
-μ-loop file st₀ at₀ n₀ count₀ st at n count = length file - at
+μ-loop file sort st₀ at₀ n₀ count₀ st at n count = length file - at
 
 -- the line that starts here
-here : (c : tie.After-next-line Inv-loop μ-loop) → LineAt (now (c .before .before .before .before .before .args .file)) (c .before .before .loop .at) (c .next-line .result)
+here : (c : tie.After-next-line Inv-loop μ-loop) → LineAt (now (c .before .before .before .before .before .before .before .args .file)) (c .before .before .before .before .loop .at) (c .next-line .result)
 here c = line-at _ _ _ (c .next-line .ensures) (omega arith)
 
 start-requires : tie.Need-start-requires Inv-loop μ-loop
@@ -24,6 +24,12 @@ start-requires c κs = search needs
 
 loop-holds : tie.Need-loop-holds Inv-loop μ-loop
 loop-holds c = (within-start _, omega arith)
+
+is-left-requires : tie.Need-is-left-requires Inv-loop μ-loop
+is-left-requires c κs = search needs
+
+returns : tie.Need-returns Inv-loop μ-loop
+returns c = search needs
 
 next-line-requires : tie.Need-next-line-requires Inv-loop μ-loop
 next-line-requires c κs = search needs
@@ -41,28 +47,22 @@ passes-requires : tie.Need-passes-requires Inv-loop μ-loop
 passes-requires c κs = search needs
 
 add-n : tie.Need-add-n Inv-loop μ-loop
-add-n c = let l = c .before .before .before in omega (arith, l .before .before .loop .inv .0 .number, here l .further, here l .inside, l .before .before .before .before .before .good .0 .0)
+add-n c = let l = c .before .before .before in omega (arith, l .before .before .before .before .loop .inv .0 .number, here l .further, here l .inside, l .before .before .before .before .before .before .before .good .0 .0)
 
 loop-less : tie.Need-loop-less Inv-loop μ-loop
 loop-less c = let l = c .before .before .before in omega (arith, here l .further, here l .inside)
 
 loop-again : tie.Need-loop-again Inv-loop μ-loop
-loop-again c = let l = c .before .before .before in let i = l .before .before .loop .inv in (within-turn (i .0) (here l), omega (arith, i .1))
-
-all-left-requires : tie.Need-all-left-requires Inv-loop μ-loop
-all-left-requires c κs = search needs
-
-returns : tie.Need-returns Inv-loop μ-loop
-returns c = search needs
+loop-again c = let l = c .before .before .before in let i = l .before .before .before .before .loop .inv in (within-turn (i .0) (here l), omega (arith, i .1))
 
 sub-step : tie.Need-sub-step Inv-loop μ-loop
-sub-step c = here (c .before .before .before .before .before) .ordered
+sub-step c = here (c .before .before .before) .ordered
 
 part-step-start : tie.Need-part-step-start Inv-loop μ-loop
-part-step-start c = here (c .before .before .before .before .before) .ordered
+part-step-start c = here (c .before .before .before) .ordered
 
 part-step-end : tie.Need-part-step-end Inv-loop μ-loop
-part-step-end c = here (c .before .before .before .before .before) .within
+part-step-end c = here (c .before .before .before) .within
 
 step-requires : tie.Need-step-requires Inv-loop μ-loop
 step-requires c κs = search needs
@@ -71,16 +71,16 @@ word-count-requires : tie.Need-word-count-requires Inv-loop μ-loop
 word-count-requires c κs = search needs
 
 add-count : tie.Need-add-count Inv-loop μ-loop
-add-count c = let l = c .before .before .before .before .before .before .before .before in let i = l .before .before .loop .inv in omega (arith, i .0 .number, i .1, here l .further, here l .inside, c .word-count .ensures, l .before .before .before .before .before .good .0 .0)
+add-count c = let l = c .before .before .before .before .before .before in let i = l .before .before .before .before .loop .inv in omega (arith, i .0 .number, i .1, here l .further, here l .inside, c .word-count .ensures, l .before .before .before .before .before .before .before .good .0 .0)
 
 add-n-2 : tie.Need-add-n-2 Inv-loop μ-loop
-add-n-2 c = let l = c .before .before .before .before .before .before .before .before .before in let i = l .before .before .loop .inv in omega (arith, i .0 .number, here l .further, here l .inside, l .before .before .before .before .before .good .0 .0)
+add-n-2 c = let l = c .before .before .before .before .before .before .before in let i = l .before .before .before .before .loop .inv in omega (arith, i .0 .number, here l .further, here l .inside, l .before .before .before .before .before .before .before .good .0 .0)
 
 loop-less-2 : tie.Need-loop-less-2 Inv-loop μ-loop
-loop-less-2 c = let l = c .before .before .before .before .before .before .before .before .before in omega (arith, here l .further, here l .inside)
+loop-less-2 c = let l = c .before .before .before .before .before .before .before in omega (arith, here l .further, here l .inside)
 
 loop-again-2 : tie.Need-loop-again-2 Inv-loop μ-loop
-loop-again-2 c = let l = c .before .before .before .before .before .before .before .before .before in let i = l .before .before .loop .inv in (within-turn (i .0) (here l), omega (arith, i .1, c .before .word-count .ensures))
+loop-again-2 c = let l = c .before .before .before .before .before .before .before in let i = l .before .before .before .before .loop .inv in (within-turn (i .0) (here l), omega (arith, i .1, c .before .word-count .ensures))
 
 returns-2 : tie.Need-returns-2 Inv-loop μ-loop
 returns-2 c = search needs
@@ -93,6 +93,8 @@ count-words-spec =
     μ-loop
     start-requires
     loop-holds
+    is-left-requires
+    returns
     next-line-requires
     sub-passes
     part-passes-start
@@ -101,8 +103,6 @@ count-words-spec =
     add-n
     loop-less
     loop-again
-    all-left-requires
-    returns
     sub-step
     part-step-start
     part-step-end

@@ -8,8 +8,17 @@ use Rattle.duplicates.proofs.first_duplicate.Tie as tie
 first-again-requires : tie.Need-first-again-requires
 first-again-requires c κs = search needs
 
-word-again-requires : tie.Need-word-again-requires
-word-again-requires c κs = search needs
+count-words-requires : tie.Need-count-words-requires
+count-words-requires c κs = search needs
+
+count-names-requires : tie.Need-count-names-requires
+count-names-requires c κs = search needs
+
+parts-for-requires : tie.Need-parts-for-requires
+parts-for-requires c κs = search needs
+
+first-of-parts-requires : tie.Need-first-of-parts-requires
+first-of-parts-requires c κs = search needs
 
 row-line-requires : tie.Need-row-line-requires
 row-line-requires c κs = search needs
@@ -19,17 +28,21 @@ earlier-requires c κs = search needs
 
 returns : tie.Need-returns
 returns c = let t = c .before .before in
-    c .earlier .ensures ∙ duplicate-row _ _ _ _ _ (t .before .before .first-again .ensures) (t .before .word-again .ensures) (t .if1 .taken) _ (c .before .row-line .ensures)
+    let w = t .before in
+    c .earlier .ensures ∙ duplicate-row _ _ _ _ _ (w .before .before .before .before .first-again .ensures) (w .first-of-parts .ensures) (t .if1 .taken) _ (c .before .row-line .ensures)
 
 returns-2 : tie.Need-returns-2
-returns-2 c = duplicate-word _ _ _ _ _ (c .before .before .first-again .ensures) (c .before .word-again .ensures) (c .if1 .left)
+returns-2 c = let w = c .before in duplicate-word _ _ _ _ _ (w .before .before .before .before .first-again .ensures) (w .first-of-parts .ensures) (c .if1 .left)
 
 pub first-duplicate-spec : {M : Type 1} → statement M
 first-duplicate-spec =
     tie.close
     (tie.spec
     first-again-requires
-    word-again-requires
+    count-words-requires
+    count-names-requires
+    parts-for-requires
+    first-of-parts-requires
     row-line-requires
     earlier-requires
     returns
