@@ -2,7 +2,7 @@
 use Prim.Native.Nat.{ℕ, suc, _+_, _-_, _≤_}
 use mathlib.Core.Bool.{Bool, true, false, cond, _&&_}
 use mathlib.Core.List.{List}
-use mathlib.Core.Path.{_≡_, refl}
+use mathlib.Core.Path.{_≡_}
 use native.Mathlib.Numerals.{add-one}
 use native.Mathlib.Omega.{arith}
 use lib.IntN.{ℤ, pos}
@@ -10,9 +10,7 @@ use lib.ListN.{length, getD, take, drop, drop-of-length-le}
 use Rattle.text.specs.Lines.{linesOf, wholeLinesOf}
 use Rattle.text.specs.Marks.{markOf}
 use Rattle.signed.specs.Signed.{sameZ}
-use Rattle.columns.specs.Columns.{formNumber, shapeKind}
-use Rattle.columns.specs.declared.Form.{Form}
-use Rattle.columns.specs.declared.Form.the-variants.{Block, Rf, Gradient, Trap, Adc, Delay, Entry, Trigger}
+use Rattle.columns.specs.Columns.{shapeKind}
 use Rattle.text.specs.declared.Line.{Line}
 use Rattle.text.proofs.Cut.{LineAt, WholeAt}
 use Rattle.grammar.specs.Parts.{noPart}
@@ -27,30 +25,21 @@ use Rattle.passing.proofs.Over.{Gave, nothing, columns, Over}
 use Rattle.passing.proofs.Sound.{sound-here, sound-next, sound-over, sound-behind}
 use Rattle.stored.specs.Shapes.{isShape}
 use Rattle.stored.specs.Places.{valuesPart}
-use Rattle.stored.specs.Inside.{idOf, isWanted, passedOf, soughtFrom, soughtOf}
+use Rattle.stored.specs.Inside.{idOf, isWanted, passedOf, behindFrom, soughtFrom, soughtOf}
 use Rattle.stored.specs.declared.Walk.{Walk}
-use Rattle.stored.proofs.Stored.{storedLen}
+use Rattle.stored.proofs.Counted.{form-other}
+use Rattle.stored.proofs.Stored.{behind-at}
 
 -- ---- a line that is passed over is no shape
-no-shape : (id : ℤ) (st : State) (s : Stepped) → Over st s → isShape id s ≡ false
+pub over-no-shape : (id : ℤ) (st : State) (s : Stepped) → Over st s → isShape id s ≡ false
 unfolding isShape isRow sameZ
-no-shape id st s o = go (o .gave)
+over-no-shape id st s o = go (o .gave)
   where
     go : Gave s → isRow (s .found) && (sameZ (getD (s .cells) 0 (pos 0)) (pos shapeKind) && sameZ (getD (s .cells) 1 (pos 0)) id) ≡ false
     go (nothing e) = rw e
-    go (columns form e k) = rw (e, k) (by-form form)
-      where
-        by-form : (form : Form) → sameZ (pos (formNumber form)) (pos shapeKind) && sameZ (getD (s .cells) 1 (pos 0)) id ≡ false
-        by-form Block = refl
-        by-form Rf = refl
-        by-form Gradient = refl
-        by-form Trap = refl
-        by-form Adc = refl
-        by-form Delay = refl
-        by-form Entry = refl
-        by-form Trigger = refl
+    go (columns form e k) = rw (e, k, form-other form)
 
-over-passed : (walk : Walk) (s : Stepped) → Over (walk .state) s → (behind : ℕ)
+pub over-passed : (walk : Walk) (s : Stepped) → Over (walk .state) s → (behind : ℕ)
     → passedOf walk s behind ≡ record { at = behind; lines = suc (walk .lines); state = walk .state }
 unfolding passedOf
 over-passed walk s o behind = rw (o .next)
@@ -65,7 +54,7 @@ wanted-one any id s e = rw e
 
 not-wanted : (any : Bool) (id : ℤ) (st : State) (s : Stepped) → Over st s → isWanted any id s ≡ false
 unfolding isWanted
-not-wanted any id st s o = no-shape (cond any (idOf s) id) st s o
+not-wanted any id st s o = over-no-shape (cond any (idOf s) id) st s o
 
 -- ---- the loop to the shape
 pub record Seeking (file : List ℕ) (any : Bool) (id : ℤ) (from walk : Walk) : Type 0 where
@@ -102,10 +91,12 @@ module _ (file : List ℕ) (any : Bool) (id : ℤ) (from walk : Walk) (k : Seeki
       no-fault : isFault (s .found) ≡ false
       no-fault = rw step-is (sound-here l (walk .state) (suc (walk .lines)) (k .sound))
 
-      pub seek-hit : isWanted any id s ≡ true → (stop : ℕ) → stop ≡ r .next + storedLen (drop (r .next) file) → (own : ℤ) → own ≡ idOf s
-          → record { part = record { start = r .next; stop = stop }; id = own; walk = passed } ≡ soughtOf file from any id
-      unfolding soughtOf soughtFrom valuesPart
-      seek-hit f stop h own o = rw (h, q, o) (rw (w .whole, w .bare, ← step-is, no-fault, f, whole-ends l) at (k .same))
+      pub seek-hit : isWanted any id s ≡ true → (ended : Walk) → ended ≡ behindFrom passed (wholeLinesOf (drop (passed .at) file)) → (own : ℤ) → own ≡ idOf s
+          → record { part = record { start = r .next; stop = ended .at }; id = own; walk = ended } ≡ soughtOf file from any id
+      unfolding soughtOf soughtFrom valuesPart passedOf behindFrom
+      seek-hit f ended h own o =
+          rw (h, q, o, behind-at (passedOf walk s (r .next)) (wholeLinesOf (drop (r .next) file)))
+          (rw (w .whole, w .bare, ← step-is, no-fault, f, whole-ends l) at (k .same))
 
       pub seek-turn : isWanted any id s ≡ false → Seeking file any id from passed
       unfolding soughtOf soughtFrom passedOf

@@ -3,16 +3,17 @@ use Prim.Native.Nat.{ℕ, suc, _+_, _-_, _≤_}
 use mathlib.Core.Bool.{Bool, true, false, cond}
 use mathlib.Core.List.{List, [], _∷_, _++_, append-assoc}
 use mathlib.Core.Path.{_≡_, refl, sym, ap, _∙_}
+use native.Mathlib.Numerals.{add-one}
 use native.Mathlib.Omega.{arith}
 use lib.Dec.{eqb}
 use lib.IntN.{ℤ, pos}
-use lib.ListN.{length, getD, take, drop, length-take, length-drop, length-append, drop-of-length-le}
+use lib.ListN.{length, getD, take, drop, length-drop, length-append, drop-of-length-le}
 use lib.Seq.{take-append-seam}
 use Rattle.text.specs.Lines.{wholeLinesOf, bareOf, onto}
 use Rattle.text.specs.Marks.{markOf}
 use Rattle.text.specs.declared.Line.{Line}
 use Rattle.fields.specs.declared.Part.{Part}
-use Rattle.text.proofs.Cut.{WholeAt}
+use Rattle.text.proofs.Cut.{LineAt, WholeAt}
 use Rattle.signed.specs.Signed.{sameZ}
 use Rattle.places.specs.Places.{fresh}
 use Rattle.grammar.specs.Parts.{noPart}
@@ -23,6 +24,8 @@ use Rattle.places.specs.declared.Stepped.{Stepped}
 use Rattle.file.specs.Whole.{isFault, rowCount}
 use Rattle.stored.specs.Shapes.{endsShape, valuesText, isShape, storedFrom, storedOf}
 use Rattle.stored.specs.Places.{valuesPart, storedPlaceFrom, storedPlace}
+use Rattle.stored.specs.Inside.{behindFrom}
+use Rattle.stored.specs.declared.Walk.{Walk}
 use Rattle.file.proofs.Laying.{row-zero, row-some}
 
 -- ---- the row of a shape
@@ -73,7 +76,7 @@ values-first (w ∷ ws) = go (endsShape (markOf (bareOf w))) (values-first ws)
     go true h = refl
     go false h = append-assoc w (valuesText ws) (rest-of ws) ∙ ap (λ (t : List ℕ). w ++ t) h
 
-abbrev pub storedLen : List ℕ → ℕ
+abbrev storedLen : List ℕ → ℕ
 storedLen s = length (valuesText (wholeLinesOf s))
 
 all-of : (s : List ℕ) → valuesText (wholeLinesOf s) ++ rest-of (wholeLinesOf s) ≡ s
@@ -86,21 +89,36 @@ pub stored-le : (s : List ℕ) → storedLen s ≤ length s
 stored-le s = let e = sym (ap length (all-of s)) ∙ length-append (valuesText (wholeLinesOf s)) (rest-of (wholeLinesOf s)) in omega arith
 
 -- ---- the loop to their end
-module _ (file : List ℕ) (at : ℕ) (r : Line) (w : WholeAt file at r) where
-  pub stored-stop : endsShape (markOf (take (r .stop - at) (drop at file))) ≡ true → 0 ≡ storedLen (drop at file)
-  unfolding valuesText
-  stored-stop e = rw (w .whole, w .bare, e)
+pub behind-at : (walk : Walk) (ws : List (List ℕ)) → behindFrom walk ws .at ≡ walk .at + length (valuesText ws)
+unfolding behindFrom valuesText
+behind-at walk [] = omega arith
+behind-at walk (w ∷ ws) = go (endsShape (markOf (bareOf w))) _ (behind-at (record { at = walk .at + length w; lines = suc (walk .lines); state = walk .state }) ws)
+  where
+    go : (b : Bool) (on : Walk) → on .at ≡ walk .at + length w + length (valuesText ws) → cond b walk on .at ≡ walk .at + length (cond b [] (w ++ valuesText ws))
+    go true on e = omega arith
+    go false on e = let n = length-append w (valuesText ws) in omega arith
 
-  pub stored-more : at ≤ r .next → r .next ≤ length file → endsShape (markOf (take (r .stop - at) (drop at file))) ≡ false
-      → r .next + storedLen (drop (r .next) file) ≡ at + storedLen (drop at file)
-  unfolding valuesText
-  stored-more h i e =
-      let l : length (take (r .next - at) (drop at file)) ≡ r .next - at = (let m = length-take (r .next - at) (drop at file) in let k = length-drop at file in omega arith) in
-      rw (w .whole, w .bare, e, length-append (take (r .next - at) (drop at file)) (valuesText (wholeLinesOf (drop (r .next) file))), l) (omega arith)
+pub record Ending (file : List ℕ) (from walk : Walk) : Type 0 where
+  pub lines : walk .lines ≤ walk .at
+  pub same : behindFrom walk (wholeLinesOf (drop (walk .at) file)) ≡ behindFrom from (wholeLinesOf (drop (from .at) file))
 
-pub stored-none : (file : List ℕ) (at : ℕ) → length file ≤ at → 0 ≡ storedLen (drop at file)
-unfolding valuesText wholeLinesOf
-stored-none file at h = rw (drop-of-length-le file h)
+module _ (file : List ℕ) (from walk : Walk) (k : Ending file from walk) where
+  module _ (r : Line) (l : LineAt file (walk .at) r) (w : WholeAt file (walk .at) r) where
+    pub ending-stop : endsShape (markOf (take (r .stop - walk .at) (drop (walk .at) file))) ≡ true → walk ≡ behindFrom from (wholeLinesOf (drop (from .at) file))
+    unfolding behindFrom
+    ending-stop e = rw (w .whole, w .bare, e) at (k .same)
+
+    pub ending-turn : endsShape (markOf (take (r .stop - walk .at) (drop (walk .at) file))) ≡ false
+        → Ending file from (record { at = r .next; lines = walk .lines + 1; state = walk .state })
+    unfolding behindFrom
+    ending-turn e =
+        let a = k .lines in
+        let b = l .further in
+        record { lines = omega arith; same = rw (add-one (walk .lines)) (rw (w .whole, w .bare, e, whole-ends l) at (k .same)) }
+
+  pub ending-end : length file ≤ walk .at → walk ≡ behindFrom from (wholeLinesOf (drop (from .at) file))
+  unfolding behindFrom wholeLinesOf
+  ending-end h = rw (drop-of-length-le file h) at (k .same)
 
 -- ---- the bytes there are the stored lines
 values-hold : (file : List ℕ) (from : ℕ) → from ≤ length file → Holds file (valuesPart from (wholeLinesOf (drop from file))) (valuesText (wholeLinesOf (drop from file)))

@@ -7,7 +7,10 @@ use native.Mathlib.Omega.{arith}
 use lib.IntN.{ℤ, pos}
 use lib.ListN.{length, getD, take, drop, drop-of-length-le}
 use Rattle.text.specs.Lines.{linesOf, wholeLinesOf, bareOf}
+use Rattle.text.specs.Marks.{markOf}
 use Rattle.text.specs.declared.Line.{Line}
+use Rattle.text.specs.declared.Mark.{Mark}
+use Rattle.text.specs.declared.Mark.the-variants.{Blank, Comment, Section as SectionLine, Plain}
 use Rattle.text.proofs.Cases.{and-both}
 use Rattle.text.proofs.Cut.{LineAt, WholeAt}
 use Rattle.signed.specs.Signed.{sameZ}
@@ -18,17 +21,21 @@ use Rattle.grammar.specs.Parts.{noPart}
 use Rattle.grammar.specs.Steps.{stepOf}
 use Rattle.grammar.proofs.Parts.{Holds, whole-ends, by-lines}
 use Rattle.places.specs.Places.{fresh}
+use Rattle.places.specs.declared.Place.the-variants.{Values}
 use Rattle.places.specs.declared.State.{State}
 use Rattle.places.specs.declared.Stepped.{Stepped}
 use Rattle.file.specs.Whole.{isFault, isRow}
 use Rattle.passing.specs.Sound.{soundFrom, soundOf}
-use Rattle.passing.proofs.Sound.{sound-next}
-use Rattle.stored.specs.Shapes.{isShape, storedOf}
+use Rattle.passing.specs.Passing.{passesOf}
+use Rattle.passing.proofs.Sound.{sound-here, sound-next, sound-over}
+use Rattle.stored.specs.Shapes.{endsShape, isShape, storedOf}
 use Rattle.stored.specs.Places.{valuesPart, storedPlaceFrom, storedPlace}
-use Rattle.stored.specs.Inside.{walkStart, idOf, isWanted, passedOf, soughtFrom, soughtOf, nextOf, Walked}
+use Rattle.stored.specs.Inside.{walkStart, idOf, isWanted, passedOf, behindFrom, soughtFrom, soughtOf, nextOf, Walked}
 use Rattle.stored.specs.declared.Walk.{Walk}
 use Rattle.stored.specs.declared.Sought.{Sought}
+use Rattle.stored.proofs.Counted.{shape-values}
 use Rattle.stored.proofs.Stored.{stored-holds}
+use Rattle.stored.proofs.Seeking.{over-no-shape, over-passed}
 
 -- ---- a line that is no shape of its own ID is a shape of none; a shape has its own ID alone
 module _ (s : Stepped) (id : ℤ) where
@@ -63,7 +70,7 @@ sought-part id walk [] = refl
 sought-part id walk (w ∷ ws) =
     let s : Stepped = stepOf (walk .state) (suc (walk .lines)) (bareOf w) in
     let at : ℕ = walk .at + length w in
-    go (isFault (s .found)) (isShape id s) (valuesPart at ws) (idOf s) (passedOf walk s at) (soughtFrom false id (passedOf walk s at) ws) (sought-part id (passedOf walk s at) ws)
+    go (isFault (s .found)) (isShape id s) (valuesPart at ws) (idOf s) (behindFrom (passedOf walk s at) ws) (soughtFrom false id (passedOf walk s at) ws) (sought-part id (passedOf walk s at) ws)
   where
     go : (f h : Bool) (v : Part) (own : ℤ) (on : Walk) (x : Sought) {p : Part} → x .part ≡ p
         → cond f (none walk) (cond h (record { part = v; id = own; walk = on }) x) .part ≡ cond f noPart (cond h v p)
@@ -78,7 +85,8 @@ next-sought id walk [] e = refl
 next-sought id walk (w ∷ ws) e =
     let s : Stepped = stepOf (walk .state) (suc (walk .lines)) (bareOf w) in
     let at : ℕ = walk .at + length w in
-    go s (isFault (s .found)) (isShape (idOf s) s) refl (valuesPart at ws) (passedOf walk s at) (soughtFrom true id (passedOf walk s at) ws) (next-sought id (passedOf walk s at) ws) e
+    go s (isFault (s .found)) (isShape (idOf s) s) refl (valuesPart at ws) (behindFrom (passedOf walk s at) ws) (soughtFrom true id (passedOf walk s at) ws)
+    (next-sought id (passedOf walk s at) ws) e
   where
     go : (s : Stepped) (f h : Bool) → isShape (idOf s) s ≡ h → (v : Part) (on : Walk) (x : Sought) {p : Part} → (sameZ (x .id) id ≡ true → x .part ≡ p)
         → sameZ (cond f (none walk) (cond h (record { part = v; id = idOf s; walk = on }) x) .id) id ≡ true
@@ -119,6 +127,14 @@ But new own id = new id × (sameZ own id ≡ false)
 abbrev standing : ℕ → ℕ → State → Walk
 standing at lines st = record { at = at; lines = lines; state = st }
 
+-- among the values of a shape a line that does not end it is passed over
+values-pass : (m : Mark) → endsShape m ≡ false → passesOf Values m ≡ true
+unfolding endsShape
+values-pass Blank e = absurd (true≢false e)
+values-pass Comment e = refl
+values-pass SectionLine e = absurd (true≢false e)
+values-pass Plain e = refl
+
 module _ (file : List ℕ) (new : ℤ → Type 0) where
   walked-turn : (walk : Walk) → Walked file new walk → (r : Line) → LineAt file (walk .at) r → WholeAt file (walk .at) r
       → (s : Stepped) → s ≡ stepOf (walk .state) (suc (walk .lines)) (take (r .stop - walk .at) (drop (walk .at) file)) → isFault (s .found) ≡ false
@@ -133,7 +149,34 @@ module _ (file : List ℕ) (new : ℤ → Type 0) where
         same = λ id h. rw (w .whole, w .bare, ← p, e, f id h .1, whole-ends l) at (x .same id (f id h .0));
       }
 
-  -- and on behind the next shape
+  -- on over the values of a shape, each of which leaves the state as it is and is no shape
+  values-walked : (at lines : ℕ) (st : State) → st .place ≡ Values → Walked file new (standing at lines st)
+      → Walked file new (behindFrom (standing at lines st) (wholeLinesOf (drop at file)))
+  unfolding behindFrom wholeLinesOf
+  values-walked =
+      by-lines file
+      (λ at. (lines : ℕ) (st : State) → st .place ≡ Values → Walked file new (standing at lines st)
+      → Walked file new (behindFrom (standing at lines st) (wholeLinesOf (drop at file))))
+      (λ at h lines st v x. rw (drop-of-length-le file h) x)
+      (λ at r l w next lines st v x. let walk : Walk = standing at lines st in
+      rw (w .whole, w .bare, whole-ends l)
+      (go walk x (endsShape (markOf (take (r .stop - at) (drop at file)))) refl (λ e. next (suc lines) st v (over walk x r l w (rw v (values-pass _ e))))))
+    where
+      over : (walk : Walk) → Walked file new walk → (r : Line) → LineAt file (walk .at) r → WholeAt file (walk .at) r
+          → passesOf (walk .state .place) (markOf (take (r .stop - walk .at) (drop (walk .at) file))) ≡ true
+          → Walked file new (standing (r .next) (suc (walk .lines)) (walk .state))
+      over walk x r l w p =
+          let s : Stepped = stepOf (walk .state) (suc (walk .lines)) (take (r .stop - walk .at) (drop (walk .at) file)) in
+          let o = sound-over l (walk .state) (suc (walk .lines)) (x .sound) p in
+          rw (over-passed walk s o (r .next)) at
+          (walked-turn walk x r l w s refl (sound-here l (walk .state) (suc (walk .lines)) (x .sound)) new (λ id n. (n, over-no-shape id (walk .state) s o)))
+
+      go : (walk : Walk) → Walked file new walk → (b : Bool) {ends : Bool} → ends ≡ b → {on : Walk} → (ends ≡ false → Walked file new on) → Walked file new (cond b walk on)
+      go walk x true e y = x
+      go walk x false e y = y e
+
+-- and on behind the next shape
+module _ (file : List ℕ) (new : ℤ → Type 0) where
   sought-walked : (at lines : ℕ) (st : State) → Walked file new (standing at lines st) → (id : ℤ)
       → let x = soughtFrom true id (standing at lines st) (wholeLinesOf (drop at file)) in Walked file (But new (x .id)) (x .walk)
   unfolding soughtFrom wholeLinesOf passedOf isWanted
@@ -143,18 +186,22 @@ module _ (file : List ℕ) (new : ℤ → Type 0) where
       → let x = soughtFrom true id (standing at lines st) (wholeLinesOf (drop at file)) in Walked file (But new (x .id)) (x .walk))
       (λ at h lines st x id. rw (drop-of-length-le file h) (walked-less (λ i n. n .0) x))
       (λ at r l w next lines st x id. let walk : Walk = standing at lines st in
-      let s : Stepped = stepOf st (suc lines) (take (r .stop - at) (drop at file)) in
+      let line : List ℕ = take (r .stop - at) (drop at file) in
+      let s : Stepped = stepOf st (suc lines) line in
+      let ws : List (List ℕ) = wholeLinesOf (drop (r .next) file) in
       rw (w .whole, w .bare, whole-ends l)
-      (go walk x s (isFault (s .found)) (isShape (idOf s) s) refl (valuesPart (r .next) (wholeLinesOf (drop (r .next) file))) (passedOf walk s (r .next))
-      (soughtFrom true id (passedOf walk s (r .next)) (wholeLinesOf (drop (r .next) file))) (walked-turn walk x r l w s refl) (λ y. next (suc lines) (s .next) y id)))
+      (go walk x s (isFault (s .found)) (isShape (idOf s) s) refl (valuesPart (r .next) ws) (passedOf walk s (r .next)) (behindFrom (passedOf walk s (r .next)) ws)
+      (soughtFrom true id (passedOf walk s (r .next)) ws) (walked-turn file new walk x r l w s refl)
+      (λ i y. values-walked file (But new (idOf s)) (r .next) (suc lines) (s .next) (shape-values st (suc lines) (idOf s) line i) y) (λ y. next (suc lines) (s .next) y id)))
     where
-      go : (walk : Walk) → Walked file new walk → (s : Stepped) (f h : Bool) → isShape (idOf s) s ≡ h → (v : Part) (on : Walk) (y : Sought)
+      go : (walk : Walk) → Walked file new walk → (s : Stepped) (f h : Bool) → isShape (idOf s) s ≡ h → (v : Part) (on behind : Walk) (y : Sought)
           → (f ≡ false → (fewer : ℤ → Type 0) → ((id : ℤ) → fewer id → new id × (isShape id s ≡ false)) → Walked file fewer on)
+          → (isShape (idOf s) s ≡ true → Walked file (But new (idOf s)) on → Walked file (But new (idOf s)) behind)
           → (Walked file new on → Walked file (But new (y .id)) (y .walk))
-          → let x = cond f (none walk) (cond h (record { part = v; id = idOf s; walk = on }) y) in Walked file (But new (x .id)) (x .walk)
-      go walk x s true h i v on y a b = walked-less (λ id n. n .0) x
-      go walk x s false true i v on y a b = a refl (But new (idOf s)) (λ id n. (n .0, other-shape s id (n .1)))
-      go walk x s false false i v on y a b = b (a refl new (λ id n. (n, no-shape s id i)))
+          → let x = cond f (none walk) (cond h (record { part = v; id = idOf s; walk = behind }) y) in Walked file (But new (x .id)) (x .walk)
+      go walk x s true h i v on behind y a d b = walked-less (λ id n. n .0) x
+      go walk x s false true i v on behind y a d b = d i (a refl (But new (idOf s)) (λ id n. (n .0, other-shape s id (n .1))))
+      go walk x s false false i v on behind y a d b = b (a refl new (λ id n. (n, no-shape s id i)))
 
 -- ---- the next shape, from where a walk stands or from the front
 module _ (file : List ℕ) (walk : Walk) (id : ℤ) where

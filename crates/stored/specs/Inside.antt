@@ -7,13 +7,14 @@ use lib.IntN.{ℤ, pos}
 use lib.ListN.{length, getD, drop}
 use Rattle.signed.specs.Signed.{sameZ}
 use Rattle.text.specs.Lines.{linesOf, wholeLinesOf, bareOf}
+use Rattle.text.specs.Marks.{markOf}
 use Rattle.grammar.specs.Parts.{noPart}
 use Rattle.grammar.specs.Steps.{stepOf}
 use Rattle.places.specs.Places.{fresh}
 use Rattle.places.specs.declared.Stepped.{Stepped}
 use Rattle.file.specs.Whole.{isFault}
 use Rattle.passing.specs.Sound.{soundFrom}
-use Rattle.stored.specs.Shapes.{isShape}
+use Rattle.stored.specs.Shapes.{endsShape, isShape}
 use Rattle.stored.specs.Places.{valuesPart, storedPlaceFrom, storedPlace}
 use Rattle.stored.specs.declared.Walk.{Walk}
 use Rattle.stored.specs.declared.Sought.{Sought}
@@ -25,7 +26,13 @@ walkStart = record { at = 0; lines = 0; state = fresh }
 unfoldable pub passedOf : Walk → Stepped → ℕ → Walk
 passedOf walk s behind = record { at = behind; lines = suc (walk .lines); state = s .next }
 
--- ---- The next shape in the lines from where a walk stands, of any ID or with this one, and the walk behind its `num_samples`
+-- on over the lines up to the one that ends the shape, which leave the state as it is
+unfoldable pub behindFrom : Walk → List (List ℕ) → Walk
+behindFrom walk [] = walk
+behindFrom walk (w ∷ ws) =
+    cond (endsShape (markOf (bareOf w))) walk (behindFrom (record { at = walk .at + length w; lines = suc (walk .lines); state = walk .state }) ws)
+
+-- ---- The next shape in the lines from where a walk stands, of any ID or with this one, and the walk behind its stored lines
 -- the ID of a shape's row
 abbrev pub idOf : Stepped → ℤ
 idOf s = getD (s .cells) 1 (pos 0)
@@ -38,7 +45,11 @@ soughtFrom any id walk [] = record { part = noPart; id = pos 0; walk = walk }
 soughtFrom any id walk (w ∷ ws) =
     cond (isFault (stepOf (walk .state) (suc (walk .lines)) (bareOf w) .found)) (record { part = noPart; id = pos 0; walk = walk })
     (cond (isWanted any id (stepOf (walk .state) (suc (walk .lines)) (bareOf w)))
-    (record { part = valuesPart (walk .at + length w) ws; id = idOf (stepOf (walk .state) (suc (walk .lines)) (bareOf w)); walk = passedOf walk (stepOf (walk .state) (suc (walk .lines)) (bareOf w)) (walk .at + length w) })
+    (record {
+      part = valuesPart (walk .at + length w) ws;
+      id = idOf (stepOf (walk .state) (suc (walk .lines)) (bareOf w));
+      walk = behindFrom (passedOf walk (stepOf (walk .state) (suc (walk .lines)) (bareOf w)) (walk .at + length w)) ws;
+    })
     (soughtFrom any id (passedOf walk (stepOf (walk .state) (suc (walk .lines)) (bareOf w)) (walk .at + length w)) ws))
 
 unfoldable pub soughtOf : List ℕ → Walk → Bool → ℤ → Sought

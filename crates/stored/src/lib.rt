@@ -1,14 +1,14 @@
 // The stored lines of the shapes of a file of which no line is at fault, as parts of its text, and where they stand.
 ghost use mathlib.Core.Path.{_≡_};
-ghost use Prim.Native.Nat.{suc, _+_, _≤_};
+ghost use Prim.Native.Nat.{suc, _≤_};
 ghost use mathlib.Core.Bool.{true};
-ghost use lib.ListN.{length, drop};
+ghost use lib.ListN.{drop};
 ghost use Rattle.text.specs.Lines.{linesOf, wholeLinesOf};
 ghost use Rattle.text.specs.Marks.{markOf};
 ghost use Rattle.passing.specs.Sound.{soundFrom, soundOf};
-ghost use Rattle.stored.specs.Shapes.{endsShape, valuesText, isShape, storedOf};
+ghost use Rattle.stored.specs.Shapes.{endsShape, isShape, storedOf};
 ghost use Rattle.stored.specs.Places.{storedPlace};
-ghost use Rattle.stored.specs.Inside.{walkStart, isWanted, soughtOf, nextOf};
+ghost use Rattle.stored.specs.Inside.{walkStart, behindFrom, isWanted, soughtOf, nextOf};
 use fields::Part;
 use places::State;
 use places::Stepped;
@@ -21,7 +21,7 @@ pub struct Walk {
     pub state: State,
 }
 
-// Where stored lines stand, the ID of their shape, and the walk that found them.
+// Where stored lines stand, the ID of their shape, and the walk from which the next shape is sought.
 pub struct Sought {
     pub part: Part,
     pub id: i64,
@@ -40,20 +40,24 @@ fn ends_shape(line: &[u8]) -> bool
     }
 }
 
-// Where the stored lines stop that start at a place.
-fn stored_end(file: &[u8], from: usize) -> usize
-    ensures { λ r. ⌜ r ≡ from + length (valuesText (wholeLinesOf (drop from (now (file .entry))))) ⌝ }
+// Walks on to where the stored lines stop that start where a walk stands. They leave the state as it is.
+fn behind_values(file: &[u8], from: Walk) -> Walk
+    requires { ⌜ from .lines ≤ from .at ⌝ }
+    ensures { λ r. ⌜ r ≡ behindFrom from (wholeLinesOf (drop (from .at) (now (file .entry)))) ⌝ }
 {
-    let mut at = from;
-    while at < file.len() {
+    let mut walk = from;
+    while walk.at < file.len() {
+        let at = walk.at;
         let line = text::next_line(file, at);
         let stop = line.stop;
         if ends_shape(&file[at..stop]) {
-            return at;
+            return walk;
         }
-        at = line.next;
+        let behind = line.next;
+        walk.at = behind;
+        walk.lines = walk.lines + 1;
     }
-    at
+    walk
 }
 
 // Is this the row of the shape with this ID?
@@ -94,8 +98,8 @@ pub fn walk_start() -> Walk
     }
 }
 
-// Walks on to the next shape, of any ID or with this one; its stored lines are empty, and at the start, if there is none. Lines that leave the walk
-// where it stands are passed over.
+// Walks on behind the next shape, of any ID or with this one; its stored lines are empty, and at the start, if there is none. Lines that leave the
+// state as it is are passed over.
 fn seek(file: &[u8], from: Walk, any: bool, id: i64) -> Sought
     requires { ⌜ from .lines ≤ from .at ⌝ }
     requires { ⌜ soundFrom (from .state) (suc (from .lines)) (linesOf (drop (from .at) (now file))) ≡ true ⌝ }
@@ -121,15 +125,16 @@ fn seek(file: &[u8], from: Walk, any: bool, id: i64) -> Sought
                 state: next,
             };
             if is_wanted(did, any, id) {
+                let ended = behind_values(file, passed);
                 let part = Part {
                     start: behind,
-                    stop: stored_end(file, behind),
+                    stop: ended.at,
                 };
                 let own = did.cells[1];
                 return Sought {
                     part,
                     id: own,
-                    walk: passed,
+                    walk: ended,
                 };
             }
             walk = passed;

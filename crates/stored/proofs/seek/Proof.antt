@@ -70,8 +70,8 @@ step-requires c κs = search needs
 is-wanted-requires : tie.Need-is-wanted-requires Inv-loop μ-loop
 is-wanted-requires c κs = search needs
 
-stored-end-requires : tie.Need-stored-end-requires Inv-loop μ-loop
-stored-end-requires c κs = search needs
+behind-values-requires : tie.Need-behind-values-requires Inv-loop μ-loop
+behind-values-requires c κs = let l = c .before .before .before .before .before .before .before .before in omega (arith, here l .further, l .before .before .before .before .before .loop .inv .lines)
 
 element-copy-out-own : tie.Need-element-copy-out-own Inv-loop μ-loop
 element-copy-out-own c = search needs
@@ -80,7 +80,7 @@ returns : tie.Need-returns Inv-loop μ-loop
 returns c = let w = c .before .before .before in
     let s = w .before .before in
     let l = s .before .before .before .before .before in
-    seek-hit _ _ _ _ _ (l .before .before .before .before .before .loop .inv) _ (here l) (whole l) _ (s .step .ensures) _ (passed-is _ _ _) (sym (w .is-wanted .ensures) ∙ c .before .before .if3 .taken) _ (c .before .stored-end .ensures) _ (rd-at _ (c .own .given))
+    seek-hit _ _ _ _ _ (l .before .before .before .before .before .loop .inv) _ (here l) (whole l) _ (s .step .ensures) _ (passed-is _ _ _) (sym (w .is-wanted .ensures) ∙ c .before .before .if3 .taken) _ (c .before .behind-values .ensures) _ (rd-at _ (c .own .given))
     ∙ ap (soughtOf _ _ _) (rd-is (l .before .before .before .before .before .before .before .fits .id))
 
 loop-less-2 : tie.Need-loop-less-2 Inv-loop μ-loop
@@ -114,7 +114,7 @@ seek-spec =
     part-step-end
     step-requires
     is-wanted-requires
-    stored-end-requires
+    behind-values-requires
     element-copy-out-own
     returns
     loop-less-2
