@@ -6,5 +6,6 @@ pub mod Mantissas
 pub mod Powers
 pub mod Pairs
 pub mod Bodies
+pub mod Plain
 pub mod Kept
 pub mod Examples

@@ -70,7 +70,7 @@ unfolding digits fraction whole upTo
 digits-point m = refl
 
 -- ---- digits in front
-digit-not : (x a : ℕ) → isDigit x ≡ true → isDigit a ≡ false → x ≡ a → ⊥
+pub digit-not : (x a : ℕ) → isDigit x ≡ true → isDigit a ≡ false → x ≡ a → ⊥
 digit-not x a d n e = false≢true (sym n ∙ ap isDigit (sym e) ∙ d)
 
 not-point : (x : ℕ) → isDigit x ≡ true → x ≡ 46 → ⊥

@@ -74,6 +74,10 @@ pairOf negative v s =
     cond (eqb v 0) (Value (record { mantissa = pos 0; exponent = pos 0 }))
     (cond (leb 101 s && leb s 299) (Value (record { mantissa = signedOf negative v; exponent = subℕ s 200 })) Bad)
 
+-- the same of a number of which f digits stand behind the point, with no exponent
+unfoldable pub pointedOf : Bool → ℕ → ℕ → Number
+pointedOf negative v f = pairOf negative ((stripFrom v 0) .v) (200 + (stripFrom v 0) .zeros - f)
+
 unfoldable pub joined : Bool → Mantissa → Natural → Number
 joined negative (MantissaValue v z f e) (NaturalValue x) = pairOf negative v (x + z - f)
 joined negative (MantissaValue v z f e) NaturalBad = Bad

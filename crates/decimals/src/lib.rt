@@ -4,7 +4,7 @@ ghost use Prim.Native.Nat.{_+_, _^_, _<_, _≤_};
 ghost use lib.IntN.{subℕ};
 ghost use lib.ListN.{length, drop};
 ghost use Rattle.decimals.specs.Decimal.{mantissaPart, stripFrom, decimalOf, sameDecimal};
-ghost use Rattle.decimals.specs.Inside.{signOf, stopOf, gatherOf, large, bareOf, mantissaOf, Fit, powerOf, pairOf, bodyOf};
+ghost use Rattle.decimals.specs.Inside.{signOf, stopOf, gatherOf, large, bareOf, mantissaOf, Fit, powerOf, pairOf, pointedOf, bodyOf};
 use numeral::Decimal;
 use numeral::Natural;
 
@@ -228,6 +228,15 @@ fn pair(negative: bool, v: u64, s: u64) -> Number
         mantissa: m,
         exponent: e,
     })
+}
+
+// A number of which f digits stand behind the point, with no exponent, as a decimal.
+pub fn pointed(negative: bool, v: u64, f: usize) -> Number
+    requires { ⌜ (v < large) × (f ≤ 32) ⌝ }
+    ensures { λ r. ⌜ r ≡ pointedOf negative v f ⌝ }
+{
+    let t = strip_from(v, 0);
+    pair(negative, t.v, 200 + t.zeros - f as u64)
 }
 
 // What stands behind the sign.

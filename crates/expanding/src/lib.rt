@@ -88,10 +88,10 @@ fn next_value(stored: &[u8], from: usize) -> Next
 {
     let mut at = from;
     while at < stored.len() {
-        let line = text::cut_line(stored, at);
-        let stop = line.stop;
+        let line = shape::item_at(stored, at);
+        let item = line.item;
         let behind = line.next;
-        match shape::cut_item(&stored[at..stop], line.clean) {
+        match item {
             Item::Value(d) => {
                 return Next::Value(d, behind);
             }

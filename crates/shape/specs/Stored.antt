@@ -3,7 +3,7 @@ use Prim.Native.Nat.{ℕ}
 use mathlib.Core.Bool.{Bool, true, false, cond, _&&_}
 use mathlib.Core.List.{List, [], _∷_}
 use lib.ListN.{length, drop}
-use Rattle.text.specs.Lines.{linesOf}
+use Rattle.text.specs.Lines.{linesOf, bareOf, lineAt}
 use Rattle.text.specs.Marks.{markOf, breaksLine}
 use Rattle.fields.specs.Fields.{fieldsOf}
 use Rattle.text.specs.declared.Mark.{Mark}
@@ -14,6 +14,7 @@ use Rattle.decimals.specs.declared.Number.{Number}
 use Rattle.decimals.specs.declared.Number.the-variants.{Value as NumberValue, Bad as NumberBad}
 use Rattle.shape.specs.declared.Count.{Count}
 use Rattle.shape.specs.declared.Count.the-variants.{Values, Faulty}
+use Rattle.shape.specs.declared.Held.{Held}
 use Rattle.shape.specs.declared.Item.{Item}
 use Rattle.shape.specs.declared.Item.the-variants.{Value, Skipped, Bad}
 
@@ -35,6 +36,10 @@ markItem Plain line = fieldsItem (fieldsOf line)
 
 unfoldable pub itemOf : List ℕ → Item
 itemOf line = cond (breaksLine line) Bad (markItem (markOf line) line)
+
+-- the line that starts at a place, and where the next one starts
+unfoldable pub heldAt : List ℕ → ℕ → Held
+heldAt text at = record { item = itemOf (bareOf (drop at text)); next = lineAt text at .next }
 
 -- ---- All lines: that none is at fault, and the values that they hold
 unfoldable pub isSound : Item → Bool

@@ -2,9 +2,12 @@
 // sample that a value makes of the sum so far, and what expanding can answer.
 ghost use mathlib.Core.Bool.{false, not};
 ghost use mathlib.Core.Path.{_≡_};
+ghost use Prim.Native.Nat.{_<_};
 ghost use Rattle.text.specs.Marks.{anyControl, breaksLine};
 ghost use Rattle.fields.specs.Fields.{fieldsOf};
-ghost use Rattle.shape.specs.Stored.{fieldsItem, itemOf, countOf};
+ghost use Rattle.decimals.specs.Inside.{large};
+ghost use Rattle.shape.specs.Stored.{fieldsItem, itemOf, heldAt, countOf};
+ghost use Rattle.shape.specs.Inside.{standsAt, GatheredFrom, SpelledFrom, SignFrom, AloneAt};
 ghost use Rattle.shape.specs.Samples.{addOf, isPlain};
 ghost use Rattle.shape.specs.Answers.{numberOf, usedOf};
 use decimals::Number;
@@ -60,6 +63,33 @@ pub enum Item {
     Bad,
 }
 
+// A stored line: what it holds, and where the next line starts.
+pub struct Held {
+    pub item: Item,
+    pub next: usize,
+}
+
+// Digits of a text: what they are worth behind a number in front of them, and the place behind them.
+struct Digits {
+    v: u64,
+    stop: usize,
+}
+
+// A number without a sign and an exponent: what its digits are worth, how many they are, how many of them stand behind the point, and the place
+// behind them all.
+struct Spelled {
+    v: u64,
+    count: usize,
+    behind: usize,
+    stop: usize,
+}
+
+// A value that stands alone on a line, and where the next line starts; or anything else, which is to be looked at more closely.
+enum Alone {
+    Value(Decimal, usize),
+    Other,
+}
+
 // How many values some lines hold, or that a line is at fault.
 pub enum Count {
     Values(usize),
@@ -87,7 +117,7 @@ pub fn plain_item(line: &[u8]) -> Item
 }
 
 // What a stored line holds that LINE does not refuse: a comment is skipped, and anything else that is not one decimal is at fault.
-pub fn clean_item(line: &[u8]) -> Item
+fn clean_item(line: &[u8]) -> Item
     requires { ⌜ breaksLine (now line) ≡ false ⌝ }
     ensures { λ r. ⌜ r ≡ itemOf (now (line .entry)) ⌝ }
 {
@@ -100,7 +130,7 @@ pub fn clean_item(line: &[u8]) -> Item
 }
 
 // What a stored line holds.
-pub fn line_item(line: &[u8]) -> Item
+fn line_item(line: &[u8]) -> Item
     ensures { λ r. ⌜ r ≡ itemOf (now (line .entry)) ⌝ }
 {
     if text::breaks_line(line) {
@@ -110,7 +140,7 @@ pub fn line_item(line: &[u8]) -> Item
 }
 
 // What a stored line holds that was cut off and found clean or not.
-pub fn cut_item(line: &[u8], clean: bool) -> Item
+fn cut_item(line: &[u8], clean: bool) -> Item
     requires { ⌜ clean ≡ not (anyControl (now line)) ⌝ }
     ensures { λ r. ⌜ r ≡ itemOf (now (line .entry)) ⌝ }
 {
@@ -122,6 +152,127 @@ pub fn cut_item(line: &[u8], clean: bool) -> Item
     line_item(line)
 }
 
+// Does this byte stand at a place?
+fn stands_at(text: &[u8], at: usize, b: u8) -> bool
+    ensures { λ r. ⌜ r ≡ standsAt (now (text .entry)) at b ⌝ }
+{
+    if at < text.len() {
+        return text[at] == b;
+    }
+    false
+}
+
+// Gathers the digits from a place on behind v, up to another byte or to 18 digits.
+fn gather(text: &[u8], at: usize, v: u64) -> Digits
+    requires { ⌜ v < large ⌝ }
+    ensures { λ r. ⌜ GatheredFrom (now (text .entry)) at v r ⌝ }
+{
+    let mut w = v;
+    let mut i = at;
+    while i < text.len() {
+        let b = text[i];
+        if b < 48 {
+            return Digits { v: w, stop: i };
+        }
+        if 57 < b {
+            return Digits { v: w, stop: i };
+        }
+        if 99999999999999999 < w {
+            return Digits { v: w, stop: i };
+        }
+        w = w * 10 + (b - 48) as u64;
+        i += 1;
+    }
+    Digits { v: w, stop: i }
+}
+
+// Digits from a place on, with a point among them or not.
+fn spell(text: &[u8], start: usize) -> Spelled
+    ensures { λ r. ⌜ SpelledFrom (now (text .entry)) start r ⌝ }
+{
+    let whole = gather(text, start, 0);
+    let point = whole.stop;
+    if stands_at(text, point, 46) {
+        let all = gather(text, point + 1, whole.v);
+        let stop = all.stop;
+        return Spelled {
+            v: all.v,
+            count: stop - start - 1,
+            behind: stop - point - 1,
+            stop,
+        };
+    }
+    Spelled {
+        v: whole.v,
+        count: point - start,
+        behind: 0,
+        stop: point,
+    }
+}
+
+// The value of the line that starts at a place and whose digits start at another, behind a minus or none.
+fn signed_value(minus: bool, text: &[u8], at: usize, start: usize) -> Alone
+    requires { ⌜ SignFrom (now text) at start minus ⌝ }
+    ensures { λ r. ⌜ AloneAt (now (text .entry)) at r ⌝ }
+{
+    let number = spell(text, start);
+    let stop = number.stop;
+    if number.count == 0 {
+        return Alone::Other;
+    }
+    if 32 < stop - at {
+        return Alone::Other;
+    }
+    if !stands_at(text, stop, 10) {
+        return Alone::Other;
+    }
+    match decimals::pointed(minus, number.v, number.behind) {
+        Number::Value(d) => Alone::Value(d, stop + 1),
+        Number::Bad => Alone::Other,
+    }
+}
+
+// The value of the line that starts at a place, if it stands there alone without an exponent. Most stored lines are such.
+fn quick_value(text: &[u8], at: usize) -> Alone
+    ensures { λ r. ⌜ AloneAt (now (text .entry)) at r ⌝ }
+{
+    if stands_at(text, at, 45) {
+        return signed_value(true, text, at, at + 1);
+    }
+    signed_value(false, text, at, at)
+}
+
+// The stored line that starts at a place, cut off first.
+fn cut_held(text: &[u8], at: usize) -> Held
+    ensures { λ r. ⌜ r ≡ heldAt (now (text .entry)) at ⌝ }
+{
+    if text.len() <= at {
+        return Held {
+            item: Item::Bad,
+            next: at,
+        };
+    }
+    let line = text::cut_line(text, at);
+    let stop = line.stop;
+    Held {
+        item: cut_item(&text[at..stop], line.clean),
+        next: line.next,
+    }
+}
+
+// The stored line that starts at a place: what it holds, and where the next line starts.
+pub fn item_at(text: &[u8], at: usize) -> Held
+    ensures { λ r. ⌜ r ≡ heldAt (now (text .entry)) at ⌝ }
+{
+    match quick_value(text, at) {
+        Alone::Value(d, next) => Held {
+            item: Item::Value(d),
+            next,
+        },
+        Alone::Other => cut_held(text, at),
+    }
+}
+
 // How many values the lines hold, if none is at fault.
 pub fn count_values(stored: &[u8]) -> Count
     ensures { λ r. ⌜ r ≡ countOf (now (stored .entry)) ⌝ }
@@ -129,10 +280,10 @@ pub fn count_values(stored: &[u8]) -> Count
     let mut at = 0;
     let mut n = 0;
     while at < stored.len() {
-        let line = text::cut_line(stored, at);
-        let stop = line.stop;
+        let line = item_at(stored, at);
+        let item = line.item;
         let behind = line.next;
-        match cut_item(&stored[at..stop], line.clean) {
+        match item {
             Item::Value(_) => {
                 n += 1;
                 at = behind;

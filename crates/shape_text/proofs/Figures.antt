@@ -5,14 +5,14 @@ use mathlib.Core.List.{List, [], _∷_, _++_}
 use mathlib.Core.Path.{_≡_, refl, _∙_}
 use mathlib.Core.Logic.{⊎-elim}
 use native.Mathlib.Omega.{arith}
-use borrow.Author.Tests.{ne-eqb, le-ltb}
+use borrow.Author.Tests.{ne-eqb}
 use lib.IntN.{ℤ, natAbs}
 use lib.ListN.{length}
-use Rattle.text.specs.Marks.{isBlank, markOf, isComment, breaksLine}
+use Rattle.text.specs.Marks.{isBlank, markOf}
 use Rattle.text.specs.declared.Mark.the-variants.{Plain}
 use Rattle.text.proofs.Cases.{and-both, lt-or-ge}
-use Rattle.fields.proofs.Fields.{Word, fields-last}
-use Rattle.fields.proofs.Visible.{allVisible, visible-plain}
+use Rattle.fields.proofs.Fields.{Word}
+use Rattle.fields.proofs.Visible.{allVisible}
 use Rattle.signed.specs.Signed.{isNegative}
 use Rattle.numeral.specs.Digits.{isDigit, allDigits}
 use Rattle.decimals.specs.Decimal.{decimalOf}
@@ -24,7 +24,7 @@ use Rattle.print.specs.Printed.{digitsOf, numberText, signedText, powerText, de
 use Rattle.print.proofs.Digits.{digits-all, digits-some}
 use Rattle.print.proofs.Figures.{decimal-visible, sample-word}
 use Rattle.print.proofs.Back.{sampleOf, sample-back}
-use Rattle.shape.specs.Stored.{numberItem, fieldsItem, markItem, itemOf}
+use Rattle.shape.proofs.Spelling.{word-item}
 use Rattle.shape_text.proofs.Reread.{Holds}
 
 -- ---- A printed number is no comment and no section line
@@ -57,10 +57,7 @@ module _ (s : List ℕ) (d : Decimal) (e : decimalOf s ≡ NumberValue d) where
       (lt-or-ge 32 (length s))
 
   pub word-holds : Word s → allVisible s ≡ true → markOf s ≡ Plain → Holds s d
-  unfolding itemOf breaksLine isComment markItem fieldsItem numberItem
-  word-holds w v m =
-      let l = decimal-short in
-      record { visible = v; item = rw (le-ltb 1024 (length s) (omega arith), m, visible-plain s v, fields-last w, e) }
+  word-holds w v m = record { visible = v; item = word-item s d w decimal-short v m e }
 
 -- ---- A sample
 sample-visible : (z : ℤ) → allVisible (sampleText z) ≡ true

@@ -5,7 +5,7 @@ use native.Mathlib.Omega.{arith}
 use mathlib.Core.Path.{sym, _∙_}
 use denote.Ref.{now}
 use Rattle.text.proofs.Cut.{LineAt}
-use Rattle.text.proofs.Clean.{lineOf, cut-at, cut-clean}
+use Rattle.shape.proofs.Items.{lineOf, held-at, held-item}
 use Rattle.expanding.proofs.Passing.{Passing, passing-start, passing-end, passing-value, passing-skipped, passing-bad}
 use borrow.Author.Needs.{needs}
 use Rattle.expanding.proofs.next_value.Statement.{statement}
@@ -18,50 +18,38 @@ abbrev μ-loop : tie.MeasureT-loop
 μ-loop stored from at₀ at = length stored - at
 
 -- the line that starts here
-here : (c : tie.After-cut-line Inv-loop μ-loop) → LineAt (now (c .before .before .before .before .args .stored)) (c .before .before .loop .at) (lineOf (c .cut-line .result))
-here c = cut-at _ _ _ (c .cut-line .ensures) (omega arith)
+here : (c : tie.After-item-at Inv-loop μ-loop) → let text = now (c .before .before .before .before .args .stored) in LineAt text (c .before .before .loop .at) (lineOf text (c .before .before .loop .at) (c .item-at .result))
+here c = held-at _ _ _ (c .item-at .ensures) (omega arith)
 
 loop-holds : tie.Need-loop-holds Inv-loop μ-loop
 loop-holds c = passing-start _ _
 
-cut-line-requires : tie.Need-cut-line-requires Inv-loop μ-loop
-cut-line-requires c κs = search needs
+item-at-requires : tie.Need-item-at-requires Inv-loop μ-loop
+item-at-requires c κs = search needs
 
-sub-cut-item : tie.Need-sub-cut-item Inv-loop μ-loop
-sub-cut-item c = here c .ordered
-
-part-cut-item-start : tie.Need-part-cut-item-start Inv-loop μ-loop
-part-cut-item-start c = here c .ordered
-
-part-cut-item-end : tie.Need-part-cut-item-end Inv-loop μ-loop
-part-cut-item-end c = here c .within
-
-cut-item-requires : tie.Need-cut-item-requires Inv-loop μ-loop
-cut-item-requires c κs = cut-clean _ _ _ (c .before .cut-line .ensures)
-
-enum-known-d : tie.Need-enum-known-d Inv-loop μ-loop
-enum-known-d c = search needs
+enum-known-item : tie.Need-enum-known-item Inv-loop μ-loop
+enum-known-item c = search needs
 
 returns : tie.Need-returns Inv-loop μ-loop
-returns c = let n = c .before .before .before .before .before in
-    passing-value (n .before .before .loop .inv) (here n) (sym (c .before .before .before .cut-item .ensures) ∙ c .before .d .given .1)
+returns c = let n = c .before .before .before in
+    passing-value (n .before .before .loop .inv) (here n) (sym (held-item _ _ _ (n .item-at .ensures)) ∙ c .before .item .given .1)
 
 enum-told : tie.Need-enum-told Inv-loop μ-loop
 enum-told c = search needs
 
 loop-less : tie.Need-loop-less Inv-loop μ-loop
-loop-less c = let l = here (c .before .before .before .before) in omega (arith, l .further, l .inside)
+loop-less c = let l = here (c .before .before) in omega (arith, l .further, l .inside)
 
 loop-again : tie.Need-loop-again Inv-loop μ-loop
-loop-again c = let n = c .before .before .before .before in
-    passing-skipped (n .before .before .loop .inv) (here n) (sym (c .before .before .cut-item .ensures) ∙ c .enum-told .given .1)
+loop-again c = let n = c .before .before in
+    passing-skipped (n .before .before .loop .inv) (here n) (sym (held-item _ _ _ (n .item-at .ensures)) ∙ c .enum-told .given .1)
 
 enum-told-2 : tie.Need-enum-told-2 Inv-loop μ-loop
 enum-told-2 c = search needs
 
 returns-2 : tie.Need-returns-2 Inv-loop μ-loop
-returns-2 c = let n = c .before .before .before .before in
-    passing-bad (n .before .before .loop .inv) (here n) (sym (c .before .before .cut-item .ensures) ∙ c .enum-told2 .given .1)
+returns-2 c = let n = c .before .before in
+    passing-bad (n .before .before .loop .inv) (here n) (sym (held-item _ _ _ (n .item-at .ensures)) ∙ c .enum-told2 .given .1)
 
 returns-3 : tie.Need-returns-3 Inv-loop μ-loop
 returns-3 c = passing-end (c .before .loop .inv) (omega arith)
@@ -73,12 +61,8 @@ next-value-spec =
     Inv-loop
     μ-loop
     loop-holds
-    cut-line-requires
-    sub-cut-item
-    part-cut-item-start
-    part-cut-item-end
-    cut-item-requires
-    enum-known-d
+    item-at-requires
+    enum-known-item
     returns
     enum-told
     loop-less
