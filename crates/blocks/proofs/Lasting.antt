@@ -3,7 +3,7 @@ use Prim.Native.Nat.{ℕ, suc, _+_, _-_, _*_, _≤_, _<_, max}
 use mathlib.Core.Bool.{Bool, true, false, cond, _&&_}
 use mathlib.Core.List.{List}
 use mathlib.Core.Logic.{⊎-elim}
-use mathlib.Core.Path.{_≡_, sym, ap, _∙_}
+use mathlib.Core.Path.{_≡_, refl, sym, ap, _∙_}
 use native.Mathlib.Numerals.{add-one}
 use native.Mathlib.Omega.{arith}
 use borrow.Author.Tests.{lt-ltb, le-ltb}
@@ -23,6 +23,7 @@ use Rattle.chains.specs.Chains.{nextEntry}
 use Rattle.references.specs.References.{extensionRef, refAt}
 use Rattle.lengths.specs.Lengths.{lengthOf, lengthAt}
 use Rattle.blocks.specs.Blocks.{metLength, entryLength, chainLength, referenceLength, longestOf, numberLength, longestEvent, blockLength, isLong, outlastsAt}
+use Rattle.blocks.specs.Inside.{foundLength}
 
 max-shift : (a b c : ℕ) → max (max a b) c ≡ max a (max b c)
 max-shift a b c = omega arith
@@ -54,32 +55,12 @@ module _ (q : Rasters) (rows : List ℤ) (n : ℕ) (samples : List ℤ) where
           let k = firstSuch (isRowOf rows (pos 0) id) 0 n in
           ⊎-elim (λ (h : k < n). rw (lt-ltb k n h) (row-none q rows n samples id k (first-is (isRowOf rows (pos 0) id) 0 n .here (omega arith)))) (λ (h : n ≤ k). rw (le-ltb k n h)) (lt-or-ge k n)
 
+  pub reference-no-class : {class held : ℤ} (id : ℤ) → held ≡ class → sameZ held (pos 0) ≡ true → 0 ≡ capped (referenceLength q rows n samples class id)
+  unfolding referenceLength sameZ
+  reference-no-class {class} {held} id p e = let z = none-length id in rw (sym p ∙ sameZ-true held (pos 0) e) (omega arith)
+
   pub met-no-class : {class held : ℤ} (id : ℤ) → held ≡ class → sameZ held (pos 0) ≡ true → 0 ≡ capped (metLength q rows n samples class id)
   met-no-class {class} {held} id p e = let z = none-length id in rw (sym p ∙ sameZ-true held (pos 0) e) (omega arith)
-
-  -- ---- what a reference meets, for a class and an ID as they were handed on
-  module _ {class id held ref : ℤ} (p : held ≡ class) (r : ref ≡ id) where
-    module _ (k : ℕ) (m : k ≡ metRow rows n held ref) where
-      pub met-event : k < n → capped (lengthAt q rows n samples k) ≡ capped (metLength q rows n samples class id)
-      unfolding metLength
-      met-event h = rw (← p, ← r, ← m, lt-ltb k n h)
-
-      pub met-nothing : n ≤ k → 0 ≡ capped (metLength q rows n samples class id)
-      unfolding metLength
-      met-nothing h = rw (← p, ← r, ← m, le-ltb k n h)
-
-      pub reference-chain : sameZ held (pos 7) ≡ true → capped (chainLength q rows n samples 256 k) ≡ capped (referenceLength q rows n samples class id)
-      unfolding referenceLength
-      reference-chain e = rw (← p, ← r, e, ← m)
-
-    pub reference-event : sameZ held (pos 7) ≡ false → capped (metLength q rows n samples held ref) ≡ capped (referenceLength q rows n samples class id)
-    unfolding referenceLength
-    reference-event e = rw (← p, ← r, e)
-
-  pub entry-is : (k : ℕ) (type class number id ref : ℤ) → type ≡ numberAt rows k 2 → class ≡ extensionRef rows n type → number ≡ class → id ≡ numberAt rows k 3 → ref ≡ id
-      → capped (metLength q rows n samples number ref) ≡ capped (entryLength q rows n samples k)
-  unfolding entryLength
-  entry-is k type class number id ref t c m i r = rw (m, c, t, r, i)
 
   -- ---- chains
   module _ (left k : ℕ) where
@@ -107,6 +88,45 @@ module _ (q : Rasters) (rows : List ℤ) (n : ℕ) (samples : List ℤ) where
       chain-on l own rest next r o x s m =
           m ∙ rw (o, s, x) (capped-longer (entryLength q rows n samples k) (chainLength q rows n samples (left - 1) (nextEntry rows n k)))
           ∙ ap capped (sym (ap (λ (j : ℕ). chainLength q rows n samples j k) more ∙ on (left - 1) l))
+
+  -- ---- what a reference meets, for a class and an ID as they were handed on
+  module _ {class id held ref : ℤ} (p : held ≡ class) (r : ref ≡ id) where
+    module _ (k : ℕ) (m : k ≡ metRow rows n held ref) where
+      pub met-event : k < n → capped (lengthAt q rows n samples k) ≡ capped (metLength q rows n samples class id)
+      unfolding metLength
+      met-event h = rw (← p, ← r, ← m, lt-ltb k n h)
+
+      pub met-nothing : n ≤ k → 0 ≡ capped (metLength q rows n samples class id)
+      unfolding metLength
+      met-nothing h = rw (← p, ← r, ← m, le-ltb k n h)
+
+      -- a number that refers to a row which is there, and to none
+      pub reference-found : k < n → capped (foundLength q rows n samples held k) ≡ capped (referenceLength q rows n samples class id)
+      unfolding foundLength referenceLength metLength
+      reference-found h = rw (← p, ← r, ← m, lt-ltb k n h)
+
+      pub reference-nothing : n ≤ k → 0 ≡ capped (referenceLength q rows n samples class id)
+      unfolding referenceLength metLength
+      reference-nothing h = rw (← p, ← r, ← m, le-ltb k n h) (go (sameZ held (pos 7)))
+        where
+          go : (b : Bool) → 0 ≡ capped (cond b (chainLength q rows n samples 256 k) 0)
+          go true = chain-past 256 k (λ (z : 256 ≡ 0). omega arith) h
+          go false = refl
+
+  -- what is found: the first entry of a chain, or an event
+  module _ {class held : ℤ} (p : held ≡ class) (k : ℕ) where
+    pub found-chain : sameZ held (pos 7) ≡ true → capped (chainLength q rows n samples 256 k) ≡ capped (foundLength q rows n samples class k)
+    unfolding foundLength
+    found-chain e = rw (← p, e)
+
+    pub found-event : sameZ held (pos 7) ≡ false → capped (lengthAt q rows n samples k) ≡ capped (foundLength q rows n samples class k)
+    unfolding foundLength
+    found-event e = rw (← p, e)
+
+  pub entry-is : (k : ℕ) (type class number id ref : ℤ) → type ≡ numberAt rows k 2 → class ≡ extensionRef rows n type → number ≡ class → id ≡ numberAt rows k 3 → ref ≡ id
+      → capped (metLength q rows n samples number ref) ≡ capped (entryLength q rows n samples k)
+  unfolding entryLength
+  entry-is k type class number id ref t c m i r = rw (m, c, t, r, i)
 
   -- ---- a number of a block: whether it is 0 is asked first
   module _ (e : Edition) (k c : ℕ) (id : ℤ) (i : id ≡ numberAt rows k c) where

@@ -1,2 +1,3 @@
 -- The laws of chains and blocks.
 pub mod Lasting
+pub mod Asked

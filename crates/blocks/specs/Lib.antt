@@ -1,2 +1,3 @@
 -- What must be believed of chains and blocks.
 pub mod Blocks
+pub mod Inside

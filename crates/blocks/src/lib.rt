@@ -1,8 +1,10 @@
 // How long blocks and extension chains last, and what is asked of blocks: LONG and OUTLASTS.
-ghost use Rattle.tables.specs.Tables.{NoneAgain};
+ghost use Rattle.tables.specs.Tables.{numberAt, NoneAgain};
 ghost use mathlib.Core.Path.{_≡_};
+ghost use lib.IntN.{pos};
 ghost use Rattle.unit.specs.Time.{capped};
 ghost use Rattle.blocks.specs.Blocks.{metLength, entryLength, chainLength, referenceLength, numberLength, longestEvent, blockLength, isLong, outlastsAt};
+ghost use Rattle.blocks.specs.Inside.{foundLength, numberBreaks, someBreaks, blockBreaks};
 use shape::Edition;
 use unit::Nanos;
 use unit::RasterCount;
@@ -79,7 +81,26 @@ fn chain_length(
     own.longer(chain_length(rasters, rows, hints, n, samples, next, left - 1))
 }
 
-// How long that lasts which a number of a block refers to: an event, or a chain of entries.
+// How long that lasts which a number of this class refers to and which is row k: an event, or the first entry of a chain.
+fn found_length(
+    rasters: Rasters,
+    rows: &[i64],
+    hints: &[u16],
+    n: usize,
+    samples: &[i64],
+    class: i64,
+    k: usize,
+) -> Nanos
+    requires { ⌜ NoneAgain (now rows) n ⌝ }
+    ensures { λ r. ⌜ r .0 ≡ capped (foundLength rasters (now (rows .entry)) n (now (samples .entry)) class k) ⌝ }
+{
+    if signed::same(class, 7) {
+        return chain_length(rasters, rows, hints, n, samples, k, 256);
+    }
+    lengths::row_length(rasters, rows, hints, n, samples, k)
+}
+
+// How long that lasts which a number of a block refers to: an event, or a chain of entries; 0 if it meets none, or refers to no class.
 fn reference_length(
     rasters: Rasters,
     rows: &[i64],
@@ -92,11 +113,14 @@ fn reference_length(
     requires { ⌜ NoneAgain (now rows) n ⌝ }
     ensures { λ r. ⌜ r .0 ≡ capped (referenceLength rasters (now (rows .entry)) n (now (samples .entry)) class id) ⌝ }
 {
-    if signed::same(class, 7) {
-        let k = finding::met_row(rows, hints, n, class, id);
-        return chain_length(rasters, rows, hints, n, samples, k, 256);
+    if signed::same(class, 0) {
+        return Nanos(0);
     }
-    met_length(rasters, rows, hints, n, samples, class, id)
+    let k = finding::met_row(rows, hints, n, class, id);
+    if k < n {
+        return found_length(rasters, rows, hints, n, samples, class, k);
+    }
+    Nanos(0)
 }
 
 // How long that lasts which number c of block k refers to. Most numbers are 0, and refer to nothing.
@@ -202,4 +226,88 @@ pub fn outlasts(
         return longest_event(Edition::V14, rasters, rows, hints, n, samples, k).exceeds(ns);
     }
     false
+}
+
+// Does number c of block k refer to a row that is not among the n, or to what lasts longer than a cap? The row is looked up once.
+fn number_breaks(
+    edition: Edition,
+    rasters: Rasters,
+    rows: &[i64],
+    hints: &[u16],
+    n: usize,
+    samples: &[i64],
+    k: usize,
+    cap: Nanos,
+    c: usize,
+) -> bool
+    requires { ⌜ NoneAgain (now rows) n ⌝ }
+    requires { ⌜ numberAt (now rows) k 0 ≡ pos 1 ⌝ }
+    ensures { λ r. ⌜ r ≡ numberBreaks edition rasters (now (rows .entry)) n (now (samples .entry)) k (cap .0) c ⌝ }
+{
+    let id = tables::number(rows, k, c);
+    if signed::same(id, 0) {
+        return false;
+    }
+    let class = references::block_ref(edition, c);
+    if signed::same(class, 0) {
+        return false;
+    }
+    let found = finding::find_once(rows, hints, n, class, id);
+    if n <= found {
+        return true;
+    }
+    found_length(rasters, rows, hints, n, samples, class, found).exceeds(cap)
+}
+
+// Does a number of block k refer to a row that is not among the n, or to what lasts longer than a cap? Only numbers 2 to 8 refer to anything.
+fn some_breaks(
+    edition: Edition,
+    rasters: Rasters,
+    rows: &[i64],
+    hints: &[u16],
+    n: usize,
+    samples: &[i64],
+    k: usize,
+    cap: Nanos,
+) -> bool
+    requires { ⌜ NoneAgain (now rows) n ⌝ }
+    requires { ⌜ numberAt (now rows) k 0 ≡ pos 1 ⌝ }
+    ensures { λ r. ⌜ r ≡ someBreaks edition rasters (now (rows .entry)) n (now (samples .entry)) k (cap .0) ⌝ }
+{
+    let mut number: usize = 2;
+    while number < 9 {
+        if number_breaks(edition, rasters, rows, hints, n, samples, k, cap, number) {
+            return true;
+        }
+        number += 1;
+    }
+    false
+}
+
+// Does block k, of n rows, refer to a row that is not there, last over 10^12 ns, or have an event that outlasts it, which is asked in 1.4? Each
+// of its numbers is looked up once.
+pub fn block_breaks(
+    edition: Edition,
+    rasters: Rasters,
+    rows: &[i64],
+    hints: &[u16],
+    n: usize,
+    samples: &[i64],
+    k: usize,
+) -> bool
+    requires { ⌜ NoneAgain (now rows) n ⌝ }
+    requires { ⌜ numberAt (now rows) k 0 ≡ pos 1 ⌝ }
+    ensures { λ r. ⌜ r ≡ blockBreaks edition rasters (now (rows .entry)) n (now (samples .entry)) k ⌝ }
+{
+    let most = Nanos(1000000000000);
+    match edition {
+        Edition::V13 => some_breaks(Edition::V13, rasters, rows, hints, n, samples, k, most),
+        Edition::V14 => {
+            let own = block_length(Edition::V14, rasters, rows, hints, n, samples, k);
+            if own.exceeds(most) {
+                return true;
+            }
+            some_breaks(Edition::V14, rasters, rows, hints, n, samples, k, own)
+        }
+    }
 }

@@ -17,7 +17,7 @@ fn duration_ref(edition: Edition) -> i64
 }
 
 // The class that number c of a block refers to; 0 is none.
-fn block_ref(edition: Edition, c: usize) -> i64
+pub fn block_ref(edition: Edition, c: usize) -> i64
     ensures { λ r. ⌜ r ≡ pos (getD (blockRefs edition) c 0) ⌝ }
 {
     match c {

@@ -1,24 +1,42 @@
 -- Rules that no row breaks, where each row was asked for all of them at once. Assumes nothing.
 use Prim.Native.Nat.{ℕ, _+_, _≤_, _<_}
-use mathlib.Core.Bool.{Bool, true, false, _||_, true≢false}
+use mathlib.Core.Bool.{Bool, true, false, _||_, or-false, true≢false}
 use mathlib.Core.List.{List}
 use mathlib.Core.Logic.{⊎-elim}
 use mathlib.Core.Path.{_≡_, refl, sym, _∙_}
 use native.Mathlib.Omega.{arith}
-use lib.IntN.{ℤ}
+use lib.IntN.{ℤ, pos}
+use Rattle.signed.specs.Signed.{sameZ}
 use Rattle.text.proofs.Cases.{lt-or-ge, or-none}
 use Rattle.unit.specs.declared.Rasters.{Rasters}
 use Rattle.shape.specs.declared.Edition.{Edition}
-use Rattle.tables.specs.Tables.{firstSuch}
+use Rattle.shape.specs.declared.Edition.the-variants.{V13, V14}
+use Rattle.tables.specs.Tables.{firstSuch, numberAt}
 use Rattle.tables.proofs.Found.{first-is}
 use Rattle.chains.specs.Chains.{loopsAt}
 use Rattle.references.specs.References.{danglesAt}
 use Rattle.events.specs.Use.{misfitsAt}
+use Rattle.events.specs.Align.{misalignedAt}
 use Rattle.blocks.specs.Blocks.{isLong}
+use Rattle.blocks.specs.Inside.{blockBreaks}
+use Rattle.blocks.proofs.Lasting.{long-other, outlasts-other}
 use Rattle.rules.specs.Rules.{alignBroken, outlastsBroken, isBroken, firstBroken}
 use Rattle.rules.specs.Inside.{breaksAny}
 use Rattle.rules.specs.declared.Rule.{Rule}
 use Rattle.rules.specs.declared.Rule.the-variants.{Reference, Loop, Use, Align, Long, Outlasts}
+
+-- ---- OUTLASTS of a row that is no block, and what is asked of one that is
+no-outlasts : (e : Edition) (q : Rasters) (rows : List ℤ) (n : ℕ) (samples : List ℤ) (k : ℕ) (kind : ℤ) → kind ≡ numberAt rows k 0 → sameZ kind (pos 1) ≡ false
+    → false ≡ outlastsBroken e q rows n samples k
+unfolding outlastsBroken
+no-outlasts V13 q rows n samples k kind p f = refl
+no-outlasts V14 q rows n samples k kind p f = outlasts-other q rows n samples k kind p f
+
+by-edition : (e : Edition) (q : Rasters) (rows : List ℤ) (n : ℕ) (samples : List ℤ) (k : ℕ) → numberAt rows k 0 ≡ pos 1
+    → blockBreaks e q rows n samples k ≡ danglesAt e rows n k || (alignBroken e q rows k || (isLong e q rows n samples k || outlastsBroken e q rows n samples k))
+unfolding blockBreaks alignBroken outlastsBroken misalignedAt sameZ
+by-edition V13 q rows n samples k p = rw (or-false (isLong V13 q rows n samples k))
+by-edition V14 q rows n samples k p = rw p
 
 -- ---- whether row k breaks any rule, by the answers of the code's tests
 module _ (e : Edition) (q : Rasters) (rows : List ℤ) (n : ℕ) (samples : List ℤ) (k : ℕ) where
@@ -37,19 +55,15 @@ module _ (e : Edition) (q : Rasters) (rows : List ℤ) (n : ℕ) (samples : List
         unfolding breaksAny isBroken
         any-use h = rw (← p, x, ← r, y, ← s, h)
 
-        module _ (z : c ≡ false) {d : Bool} (t : d ≡ alignBroken e q rows k) where
-          pub any-align : d ≡ true → true ≡ breaksAny e q rows n samples k
-          unfolding breaksAny isBroken
-          any-align h = rw (← p, x, ← r, y, ← s, z, ← t, h)
+        -- a row that is no block can break no other rule
+        pub any-align : c ≡ false → {d : Bool} → d ≡ alignBroken e q rows k → {kind : ℤ} → kind ≡ numberAt rows k 0 → sameZ kind (pos 1) ≡ false → d ≡ breaksAny e q rows n samples k
+        unfolding breaksAny isBroken
+        any-align z {d} t {kind} i f = rw (← p, x, ← r, y, ← s, z, ← t, ← long-other q rows n samples k kind i e f, ← no-outlasts e q rows n samples k kind i f) (sym (or-false d))
 
-          module _ (w : d ≡ false) {f : Bool} (u : f ≡ isLong e q rows n samples k) where
-            pub any-long : f ≡ true → true ≡ breaksAny e q rows n samples k
-            unfolding breaksAny isBroken
-            any-long h = rw (← p, x, ← r, y, ← s, z, ← t, w, ← u, h)
-
-            pub any-outlasts : f ≡ false → {g : Bool} → g ≡ outlastsBroken e q rows n samples k → g ≡ breaksAny e q rows n samples k
-            unfolding breaksAny isBroken
-            any-outlasts h o = rw (← p, x, ← r, y, ← s, z, ← t, w, ← u, h, ← o)
+  -- a block can break no other rule than those that are asked of it
+  pub any-block : numberAt rows k 0 ≡ pos 1 → {r : Bool} → r ≡ blockBreaks e q rows n samples k → r ≡ breaksAny e q rows n samples k
+  unfolding breaksAny isBroken loopsAt misfitsAt sameZ
+  any-block i p = p ∙ rw i (by-edition e q rows n samples k i)
 
 -- ---- a row that breaks none keeps each
 module _ (e : Edition) (q : Rasters) (rows : List ℤ) (n : ℕ) (samples : List ℤ) where

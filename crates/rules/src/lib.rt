@@ -87,7 +87,7 @@ pub fn is_broken(
     }
 }
 
-// Does row k, of n rows, break any rule?
+// Does row k, of n rows, break any rule? What can be broken by a block is asked in one pass over its numbers.
 fn breaks_any(
     edition: Edition,
     rasters: Rasters,
@@ -100,6 +100,9 @@ fn breaks_any(
     requires { ⌜ NoneAgain (now rows) n ⌝ }
     ensures { λ r. ⌜ r ≡ breaksAny edition rasters (now (rows .entry)) n (now (samples .entry)) k ⌝ }
 {
+    if signed::same(tables::number(rows, k, 0), 1) {
+        return blocks::block_breaks(edition, rasters, rows, hints, n, samples, k);
+    }
     if references::dangles(edition, rows, hints, n, k) {
         return true;
     }
@@ -109,13 +112,7 @@ fn breaks_any(
     if events::misfits(rows, hints, n, samples, k) {
         return true;
     }
-    if breaks_align(edition, rasters, rows, k) {
-        return true;
-    }
-    if blocks::is_long(edition, rasters, rows, hints, n, samples, k) {
-        return true;
-    }
-    breaks_outlasts(edition, rasters, rows, hints, n, samples, k)
+    breaks_align(edition, rasters, rows, k)
 }
 
 // The first of n rows that breaks any rule; n if none does. Each row is looked at once.

@@ -1,58 +1,78 @@
 -- `rules::breaks_any` meets its contract. Assumes nothing.
-use Rattle.rules.proofs.Kept.{any-reference, any-loop, any-use, any-align, any-long, any-outlasts}
+use denote.Ref.{now}
+use mathlib.Core.Path.{_≡_, refl, sym, _∙_}
+use lib.IntN.{pos}
+use Rattle.signed.proofs.Machine.{rd-at}
+use Rattle.signed.proofs.Sign.{sameZ-true}
+use Rattle.tables.specs.Tables.{numberAt}
+use Rattle.tables.proofs.Numbers.{compared}
+use Rattle.rules.proofs.Kept.{any-block, any-reference, any-loop, any-use, any-align}
 use borrow.Author.Needs.{needs}
 use Rattle.rules.proofs.breaks_any.Statement.{statement}
 use Rattle.rules.proofs.breaks_any.Tie as tie
 
+number-requires : tie.Need-number-requires
+number-requires c κs = search needs
+
+same-requires : tie.Need-same-requires
+same-requires c κs = search needs
+
+is-block : (c : tie.Then1) → numberAt (now (c .before .before .before .before .args .rows)) (c .before .before .before .before .args .k) 0 ≡ pos 1
+is-block c = let s = c .before in
+    let m = s .before .number in
+    sym (m .ensures) ∙ sameZ-true _ _ (compared _ _ _ _ (s .same .ensures) (rd-at _ (m .ok)) refl ∙ c .if1 .taken)
+
+block-breaks-requires : tie.Need-block-breaks-requires
+block-breaks-requires c κs = (c .before .before .before .before .pre, is-block c)
+
+returns : tie.Need-returns
+returns c = any-block _ _ _ _ _ _ (is-block (c .before)) (c .block-breaks .ensures)
+
 dangles-requires : tie.Need-dangles-requires
 dangles-requires c κs = search needs
 
-returns : tie.Need-returns
-returns c = any-reference _ _ _ _ _ _ (c .before .dangles .ensures) (c .if1 .taken)
+returns-2 : tie.Need-returns-2
+returns-2 c = any-reference _ _ _ _ _ _ (c .before .dangles .ensures) (c .if2 .taken)
 
 loops-requires : tie.Need-loops-requires
 loops-requires c κs = search needs
 
-returns-2 : tie.Need-returns-2
-returns-2 c = any-loop _ _ _ _ _ _ (c .before .before .before .dangles .ensures) (c .before .before .if1 .left) (c .before .loops .ensures) (c .if2 .taken)
+returns-3 : tie.Need-returns-3
+returns-3 c = let d = c .before .before in any-loop _ _ _ _ _ _ (d .before .dangles .ensures) (d .if2 .left) (c .before .loops .ensures) (c .if3 .taken)
 
 misfits-requires : tie.Need-misfits-requires
 misfits-requires c κs = search needs
 
-returns-3 : tie.Need-returns-3
-returns-3 c = any-use _ _ _ _ _ _ (c .before .before .before .before .before .dangles .ensures) (c .before .before .before .before .if1 .left) (c .before .before .before .loops .ensures) (c .before .before .if2 .left) (c .before .misfits .ensures) (c .if3 .taken)
+returns-4 : tie.Need-returns-4
+returns-4 c = let l = c .before .before in
+    let d = l .before .before in
+    any-use _ _ _ _ _ _ (d .before .dangles .ensures) (d .if2 .left) (l .before .loops .ensures) (l .if3 .left) (c .before .misfits .ensures) (c .if4 .taken)
 
 breaks-align-requires : tie.Need-breaks-align-requires
 breaks-align-requires c κs = search needs
 
-returns-4 : tie.Need-returns-4
-returns-4 c = any-align _ _ _ _ _ _ (c .before .before .before .before .before .before .before .dangles .ensures) (c .before .before .before .before .before .before .if1 .left) (c .before .before .before .before .before .loops .ensures) (c .before .before .before .before .if2 .left) (c .before .before .before .misfits .ensures) (c .before .before .if3 .left) (c .before .breaks-align .ensures) (c .if4 .taken)
-
-is-long-requires : tie.Need-is-long-requires
-is-long-requires c κs = search needs
-
 returns-5 : tie.Need-returns-5
-returns-5 c = any-long _ _ _ _ _ _ (c .before .before .before .before .before .before .before .before .before .dangles .ensures) (c .before .before .before .before .before .before .before .before .if1 .left) (c .before .before .before .before .before .before .before .loops .ensures) (c .before .before .before .before .before .before .if2 .left) (c .before .before .before .before .before .misfits .ensures) (c .before .before .before .before .if3 .left) (c .before .before .before .breaks-align .ensures) (c .before .before .if4 .left) (c .before .is-long .ensures) (c .if5 .taken)
-
-breaks-outlasts-requires : tie.Need-breaks-outlasts-requires
-breaks-outlasts-requires c κs = search needs
-
-returns-6 : tie.Need-returns-6
-returns-6 c = any-outlasts _ _ _ _ _ _ (c .before .before .before .before .before .before .before .before .before .before .dangles .ensures) (c .before .before .before .before .before .before .before .before .before .if1 .left) (c .before .before .before .before .before .before .before .before .loops .ensures) (c .before .before .before .before .before .before .before .if2 .left) (c .before .before .before .before .before .before .misfits .ensures) (c .before .before .before .before .before .if3 .left) (c .before .before .before .before .breaks-align .ensures) (c .before .before .before .if4 .left) (c .before .before .is-long .ensures) (c .before .if5 .left) (c .breaks-outlasts .ensures)
+returns-5 c = let f = c .before in
+    let l = f .before .before in
+    let d = l .before .before in
+    let b = d .before .before in
+    let s = b .before in
+    let m = s .before .number in
+    any-align _ _ _ _ _ _ (d .before .dangles .ensures) (d .if2 .left) (l .before .loops .ensures) (l .if3 .left) (f .before .misfits .ensures) (f .if4 .left) (c .breaks-align .ensures) (m .ensures) (compared _ _ _ _ (s .same .ensures) (rd-at _ (m .ok)) refl ∙ b .if1 .left)
 
 pub breaks-any-spec : {M : Type 1} → statement M
 breaks-any-spec =
     tie.close
     (tie.spec
-    dangles-requires
+    number-requires
+    same-requires
+    block-breaks-requires
     returns
-    loops-requires
+    dangles-requires
     returns-2
-    misfits-requires
+    loops-requires
     returns-3
-    breaks-align-requires
+    misfits-requires
     returns-4
-    is-long-requires
-    returns-5
-    breaks-outlasts-requires
-    returns-6)
+    breaks-align-requires
+    returns-5)

@@ -1,0 +1,28 @@
+-- `blocks::found_length` meets its contract. Assumes nothing.
+use mathlib.Core.Path.{sym, _∙_}
+use Rattle.signed.proofs.Machine.{rd-is}
+use Rattle.blocks.proofs.Lasting.{found-chain, found-event}
+use borrow.Author.Needs.{needs}
+use Rattle.blocks.proofs.found_length.Statement.{statement}
+use Rattle.blocks.proofs.found_length.Tie as tie
+
+same-requires : tie.Need-same-requires
+same-requires c κs = search needs
+
+chain-length-requires : tie.Need-chain-length-requires
+chain-length-requires c κs = search needs
+
+returns : tie.Need-returns
+returns c = let s = c .before .before in
+    c .chain-length .ensures ∙ found-chain _ _ _ _ (rd-is (s .before .before .fits .class)) _ (sym (s .same .ensures) ∙ c .before .if1 .taken)
+
+row-length-requires : tie.Need-row-length-requires
+row-length-requires c κs = search needs
+
+returns-2 : tie.Need-returns-2
+returns-2 c = let s = c .before .before in
+    c .row-length .ensures ∙ found-event _ _ _ _ (rd-is (s .before .before .fits .class)) _ (sym (s .same .ensures) ∙ c .before .if1 .left)
+
+pub found-length-spec : {M : Type 1} → statement M
+found-length-spec =
+    tie.close (tie.spec same-requires chain-length-requires returns row-length-requires returns-2)
