@@ -1,6 +1,6 @@
 -- Lengths of chains and blocks, by the answers of the code's tests. Assumes nothing.
 use Prim.Native.Nat.{ℕ, suc, _+_, _-_, _*_, _≤_, _<_, max}
-use mathlib.Core.Bool.{Bool, true, false, cond, _&&_}
+use mathlib.Core.Bool.{Bool, true, false, cond}
 use mathlib.Core.List.{List}
 use mathlib.Core.Logic.{⊎-elim}
 use mathlib.Core.Path.{_≡_, refl, sym, ap, _∙_}
@@ -11,56 +11,28 @@ use lib.Dec.{ltb}
 use lib.IntN.{ℤ, pos, natAbs}
 use Rattle.signed.specs.Signed.{sameZ}
 use Rattle.signed.proofs.Sign.{sameZ-true}
-use Rattle.text.proofs.Cases.{lt-or-ge, and-both}
+use Rattle.text.proofs.Cases.{lt-or-ge}
 use Rattle.unit.specs.Time.{longest, capped}
 use Rattle.unit.specs.declared.Rasters.{Rasters}
 use Rattle.unit.proofs.Exact.{capped-longer}
 use Rattle.shape.specs.declared.Edition.{Edition}
 use Rattle.shape.specs.declared.Edition.the-variants.{V13, V14}
-use Rattle.tables.specs.Tables.{firstSuch, numberAt, classOf, classAt, isRowOf, firstRow, metRow}
-use Rattle.tables.proofs.Found.{first-is}
+use Rattle.tables.specs.Tables.{numberAt, metRow}
 use Rattle.chains.specs.Chains.{nextEntry}
 use Rattle.references.specs.References.{extensionRef, refAt}
-use Rattle.lengths.specs.Lengths.{lengthOf, lengthAt}
+use Rattle.lengths.specs.Lengths.{lengthAt}
 use Rattle.blocks.specs.Blocks.{metLength, entryLength, chainLength, referenceLength, longestOf, numberLength, longestEvent, blockLength, isLong, outlastsAt}
-use Rattle.blocks.specs.Inside.{foundLength}
+use Rattle.blocks.specs.Inside.{Timed, foundLength}
+use Rattle.blocks.proofs.Timeless.{no-class, entry-timeless, chain-untimed}
 
 max-shift : (a b c : ℕ) → max (max a b) c ≡ max a (max b c)
 max-shift a b c = omega arith
 
--- ---- A row of class 0 has no kind, and lasts 0
-class-none : (kind second : ℤ) → classOf kind second ≡ pos 0 → kind ≡ pos 0
-unfolding classOf
-class-none kind second = go (sameZ kind (pos 4)) (sameZ kind (pos 10) && sameZ second (pos 1))
-  where
-    go : (a b : Bool) → cond a (pos 3) (cond b (pos 12) kind) ≡ pos 0 → kind ≡ pos 0
-    go true b e = absurd (let z : _≡_ {A = ℕ} 3 0 = ap natAbs e in omega arith)
-    go false true e = absurd (let z : _≡_ {A = ℕ} 12 0 = ap natAbs e in omega arith)
-    go false false e = e
-
-row-none : (q : Rasters) (rows : List ℤ) (n : ℕ) (samples : List ℤ) (id : ℤ) (k : ℕ) → isRowOf rows (pos 0) id k ≡ true → lengthAt q rows n samples k ≡ 0
-unfolding isRowOf classAt lengthAt lengthOf sameZ
-row-none q rows n samples id k e =
-    let b = and-both (sameZ (classOf (numberAt rows k 0) (numberAt rows k 2)) (pos 0)) (sameZ (numberAt rows k 1) id) e in
-    rw (class-none (numberAt rows k 0) (numberAt rows k 2) (sameZ-true (classOf (numberAt rows k 0) (numberAt rows k 2)) (pos 0) (b .0)))
-
 module _ (q : Rasters) (rows : List ℤ) (n : ℕ) (samples : List ℤ) where
-  none-length : (id : ℤ) → metLength q rows n samples (pos 0) id ≡ 0
-  unfolding metLength metRow firstRow
-  none-length id = go (sameZ id (pos 0))
-    where
-      go : (b : Bool) → cond (ltb (cond b n (firstSuch (isRowOf rows (pos 0) id) 0 n)) n) (lengthAt q rows n samples (cond b n (firstSuch (isRowOf rows (pos 0) id) 0 n))) 0 ≡ 0
-      go true = rw (le-ltb n n (omega arith))
-      go false =
-          let k = firstSuch (isRowOf rows (pos 0) id) 0 n in
-          ⊎-elim (λ (h : k < n). rw (lt-ltb k n h) (row-none q rows n samples id k (first-is (isRowOf rows (pos 0) id) 0 n .here (omega arith)))) (λ (h : n ≤ k). rw (le-ltb k n h)) (lt-or-ge k n)
-
+  -- ---- a reference of no class meets nothing that takes time
   pub reference-no-class : {class held : ℤ} (id : ℤ) → held ≡ class → sameZ held (pos 0) ≡ true → 0 ≡ capped (referenceLength q rows n samples class id)
   unfolding referenceLength sameZ
-  reference-no-class {class} {held} id p e = let z = none-length id in rw (sym p ∙ sameZ-true held (pos 0) e) (omega arith)
-
-  pub met-no-class : {class held : ℤ} (id : ℤ) → held ≡ class → sameZ held (pos 0) ≡ true → 0 ≡ capped (metLength q rows n samples class id)
-  met-no-class {class} {held} id p e = let z = none-length id in rw (sym p ∙ sameZ-true held (pos 0) e) (omega arith)
+  reference-no-class {class} {held} id p e = let z = no-class q rows n samples id in rw (sym p ∙ sameZ-true held (pos 0) e) (omega arith)
 
   -- ---- chains
   module _ (left k : ℕ) where
@@ -119,6 +91,10 @@ module _ (q : Rasters) (rows : List ℤ) (n : ℕ) (samples : List ℤ) where
     unfolding foundLength
     found-chain e = rw (← p, e)
 
+    pub found-untimed : sameZ held (pos 7) ≡ true → {timed : Bool} → timed ≡ false → Timed timed rows n → 0 ≡ capped (foundLength q rows n samples class k)
+    unfolding foundLength Timed
+    found-untimed e t h = rw (← p, e, chain-untimed q rows n samples (h t) 256 k)
+
     pub found-event : sameZ held (pos 7) ≡ false → capped (lengthAt q rows n samples k) ≡ capped (foundLength q rows n samples class k)
     unfolding foundLength
     found-event e = rw (← p, e)
@@ -127,6 +103,10 @@ module _ (q : Rasters) (rows : List ℤ) (n : ℕ) (samples : List ℤ) where
       → capped (metLength q rows n samples number ref) ≡ capped (entryLength q rows n samples k)
   unfolding entryLength
   entry-is k type class number id ref t c m i r = rw (m, c, t, r, i)
+
+  pub entry-nothing : (k : ℕ) {type class held : ℤ} → type ≡ numberAt rows k 2 → class ≡ extensionRef rows n type → held ≡ class → sameZ held (pos 9) ≡ false
+      → 0 ≡ capped (entryLength q rows n samples k)
+  entry-nothing k t c m f = let z = entry-timeless q rows n samples k t c m f in omega arith
 
   -- ---- a number of a block: whether it is 0 is asked first
   module _ (e : Edition) (k c : ℕ) (id : ℤ) (i : id ≡ numberAt rows k c) where

@@ -15,6 +15,7 @@ use Rattle.tables.specs.Tables.{firstSuch, numberAt, classAt, isRowOf, firstRow
 use Rattle.chains.specs.Chains.{nextEntry}
 use Rattle.references.specs.References.{blockRefs, rfRefs, gradientRefs, extensionRef, refOf, refAt}
 use Rattle.lengths.specs.Lengths.{microsAt, stepsAt, shapedLength, trapLength, adcLength, lengthOf, lengthAt}
+use Rattle.blocks.specs.Inside.{isTrigger, hasTriggers, Timed}
 use Rattle.blocks.specs.Blocks.{metLength, entryLength, chainLength, referenceLength, longestOf, numberLength, longestEvent, blockLength}
 
 abbrev pub Alike : List ℤ → List ℤ → Type 0
@@ -54,6 +55,11 @@ module _ (rows other : List ℤ) (same : Alike rows other) (n : ℕ) where
   once-same once k h =
       rw (such-same (isRowOf rows (classAt rows k) (numberAt rows k 1)) (isRowOf other (classAt rows k) (numberAt rows k 1)) (row-same (classAt rows k) (numberAt rows k 1)) 0 n, class-same k, same k 1 (omega arith))
       (once k h)
+
+  -- where a flag says that none of the one's rows is a trigger, none of the other's is
+  pub timed-same : (timed : Bool) → Timed timed other n → Timed timed rows n
+  unfolding Timed hasTriggers isTrigger
+  timed-same timed h = λ e. rw (such-same (isTrigger rows) (isTrigger other) (λ k. rw (same k 0 (omega arith))) 0 n) (h e)
 
   met-same : (class id : ℤ) → metRow rows n class id ≡ metRow other n class id
   unfolding metRow firstRow

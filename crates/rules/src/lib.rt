@@ -2,6 +2,7 @@
 // the tables hold when all have passed: a block's length.
 ghost use Rattle.tables.specs.Tables.{firstSuch, NoneAgain};
 ghost use mathlib.Core.Path.{_≡_};
+ghost use Rattle.blocks.specs.Inside.{Timed};
 ghost use Rattle.rules.specs.Rules.{ruleNumber, alignBroken, outlastsBroken, isBroken, firstBroken};
 ghost use Rattle.rules.specs.Inside.{breaksAny};
 ghost use Rattle.rules.specs.Filled.{lengthNumber, withLength, filled};
@@ -96,12 +97,14 @@ fn breaks_any(
     n: usize,
     samples: &[i64],
     k: usize,
+    timed: bool,
 ) -> bool
     requires { ⌜ NoneAgain (now rows) n ⌝ }
+    requires { ⌜ Timed timed (now rows) n ⌝ }
     ensures { λ r. ⌜ r ≡ breaksAny edition rasters (now (rows .entry)) n (now (samples .entry)) k ⌝ }
 {
     if signed::same(tables::number(rows, k, 0), 1) {
-        return blocks::block_breaks(edition, rasters, rows, hints, n, samples, k);
+        return blocks::block_breaks(edition, rasters, rows, hints, n, samples, k, timed);
     }
     if references::dangles(edition, rows, hints, n, k) {
         return true;
@@ -127,9 +130,10 @@ pub fn first_breaking(
     requires { ⌜ NoneAgain (now rows) n ⌝ }
     ensures { λ r. ⌜ r ≡ firstSuch (breaksAny edition rasters (now (rows .entry)) n (now (samples .entry))) 0 n ⌝ }
 {
+    let timed = blocks::has_triggers(rows, n);
     let mut k: usize = 0;
     while k < n {
-        if breaks_any(edition, rasters, rows, hints, n, samples, k) {
+        if breaks_any(edition, rasters, rows, hints, n, samples, k, timed) {
             return k;
         }
         k += 1;
@@ -169,11 +173,13 @@ fn length_number(
     n: usize,
     samples: &[i64],
     k: usize,
+    timed: bool,
 ) -> i64
     requires { ⌜ NoneAgain (now rows) n ⌝ }
+    requires { ⌜ Timed timed (now rows) n ⌝ }
     ensures { λ r. ⌜ r ≡ lengthNumber edition rasters (now (rows .entry)) n (now (samples .entry)) k ⌝ }
 {
-    let ns = blocks::block_length(edition, rasters, rows, hints, n, samples, k);
+    let ns = blocks::block_length(edition, rasters, rows, hints, n, samples, k, timed);
     signed::with_sign(false, ns.0)
 }
 
@@ -186,13 +192,15 @@ fn fill_row(
     n: usize,
     samples: &[i64],
     k: usize,
+    timed: bool,
 )
     requires { ⌜ NoneAgain (now rows) n ⌝ }
+    requires { ⌜ Timed timed (now rows) n ⌝ }
     ensures { λ r. ⌜ now (rows .exit) ≡ withLength edition rasters (now (rows .entry)) n (now (samples .entry)) (now (rows .entry)) k ⌝ }
 {
     if k < rows.len() / 12 {
         if signed::same(tables::number(rows, k, 0), 1) {
-            let ns = length_number(edition, rasters, rows, hints, n, samples, k);
+            let ns = length_number(edition, rasters, rows, hints, n, samples, k, timed);
             let i = k * 12 + 9;
             rows[i] = ns;
         }
@@ -211,9 +219,10 @@ pub fn fill_lengths(
     requires { ⌜ NoneAgain (now rows) n ⌝ }
     ensures { λ r. ⌜ now (rows .exit) ≡ filled edition rasters (now (rows .entry)) n (now (samples .entry)) (now (rows .entry)) 0 n ⌝ }
 {
+    let timed = blocks::has_triggers(rows, n);
     let mut k: usize = 0;
     while k < n {
-        fill_row(edition, rasters, rows, hints, n, samples, k);
+        fill_row(edition, rasters, rows, hints, n, samples, k, timed);
         k += 1;
     }
 }

@@ -23,18 +23,18 @@ exceeds-requires c κs = search needs
 returns : tie.Need-returns
 returns c = let x = c .before in
     let b = x .before in
-    breaks-long _ _ _ _ _ _ (b .before .before .before .before .pre .1) (b .before .enum-told2 .given .1) _ (b .block-length .ensures) (x .exceeds .ensures) (c .if1 .taken)
+    breaks-long _ _ _ _ _ _ (b .before .before .before .before .pre .1 .1) (b .before .enum-told2 .given .1) _ (b .block-length .ensures) (x .exceeds .ensures) (c .if1 .taken)
 
 some-breaks-requires-2 : tie.Need-some-breaks-requires-2
 some-breaks-requires-2 c κs = search needs
 
 returns-2 : tie.Need-returns-2
-returns-2 c = c .some-breaks .ensures ∙ breaks-13 _ _ _ _ _ _ (c .before .before .before .before .pre .1) (c .before .enum-told .given .1)
+returns-2 c = c .some-breaks .ensures ∙ breaks-13 _ _ _ _ _ _ (c .before .before .before .before .pre .1 .1) (c .before .enum-told .given .1)
 
 returns-3 : tie.Need-returns-3
 returns-3 c = let x = c .before .before in
     let b = x .before in
-    c .some-breaks2 .ensures ∙ breaks-14 _ _ _ _ _ _ (b .before .before .before .before .pre .1) (b .before .enum-told2 .given .1) _ (b .block-length .ensures) (x .exceeds .ensures) (c .before .if1 .left)
+    c .some-breaks2 .ensures ∙ breaks-14 _ _ _ _ _ _ (b .before .before .before .before .pre .1 .1) (b .before .enum-told2 .given .1) _ (b .block-length .ensures) (x .exceeds .ensures) (c .before .if1 .left)
 
 pub block-breaks-spec : {M : Type 1} → statement M
 block-breaks-spec =

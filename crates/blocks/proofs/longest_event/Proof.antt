@@ -7,10 +7,10 @@ use Rattle.blocks.proofs.longest_event.Statement.{statement}
 use Rattle.blocks.proofs.longest_event.Tie as tie
 
 abbrev Inv-loop : tie.InvT-loop
-Inv-loop edition rasters rows hints n samples k longest₀ c₀ longest c = Longest rasters rows n samples edition k (longest .0) c
+Inv-loop edition rasters rows hints n samples k timed longest₀ c₀ longest c = Longest rasters rows n samples edition k (longest .0) c
 
 abbrev μ-loop : tie.MeasureT-loop
-μ-loop edition rasters rows hints n samples k longest₀ c₀ longest c = 9 - c
+μ-loop edition rasters rows hints n samples k timed longest₀ c₀ longest c = 9 - c
 
 loop-holds : tie.Need-loop-holds Inv-loop μ-loop
 loop-holds c = longest-start _ _ _ _ _ _

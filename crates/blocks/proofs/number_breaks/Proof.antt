@@ -29,7 +29,7 @@ returns-2 c = let t = c .before in
     let x = t .before in
     let s = x .before .before in
     let i = s .before in
-    breaks-class _ _ _ _ _ _ _ _ _ (i .number .ensures) (compared _ _ _ _ (s .same .ensures) (rd-at _ (i .number .ok)) refl ∙ x .before .if1 .left) (i .before .before .pre .1) _ (x .block-ref .ensures) (compared _ _ _ _ (t .same2 .ensures) (rd-at _ (x .block-ref .ok)) refl ∙ c .if2 .taken)
+    breaks-class _ _ _ _ _ _ _ _ _ (i .number .ensures) (compared _ _ _ _ (s .same .ensures) (rd-at _ (i .number .ok)) refl ∙ x .before .if1 .left) (i .before .before .pre .1 .1) _ (x .block-ref .ensures) (compared _ _ _ _ (t .same2 .ensures) (rd-at _ (x .block-ref .ok)) refl ∙ c .if2 .taken)
 
 find-once-requires : tie.Need-find-once-requires
 find-once-requires c κs = search needs
@@ -40,7 +40,7 @@ returns-3 c = let f = c .before in
     let x = t .before in
     let s = x .before .before in
     let i = s .before in
-    breaks-missing _ _ _ _ _ _ _ _ _ (i .number .ensures) (compared _ _ _ _ (s .same .ensures) (rd-at _ (i .number .ok)) refl ∙ x .before .if1 .left) (i .before .before .pre .1) _ (x .block-ref .ensures) (compared _ _ _ _ (t .same2 .ensures) (rd-at _ (x .block-ref .ok)) refl ∙ f .before .if2 .left) (rd-at _ (x .block-ref .ok)) (rd-at _ (i .number .ok)) _ (f .find-once .ensures) (c .if3 .taken)
+    breaks-missing _ _ _ _ _ _ _ _ _ (i .number .ensures) (compared _ _ _ _ (s .same .ensures) (rd-at _ (i .number .ok)) refl ∙ x .before .if1 .left) (i .before .before .pre .1 .1) _ (x .block-ref .ensures) (compared _ _ _ _ (t .same2 .ensures) (rd-at _ (x .block-ref .ok)) refl ∙ f .before .if2 .left) (rd-at _ (x .block-ref .ok)) (rd-at _ (i .number .ok)) _ (f .find-once .ensures) (c .if3 .taken)
 
 found-length-requires : tie.Need-found-length-requires
 found-length-requires c κs = search needs
@@ -55,7 +55,7 @@ returns-4 c = let l = c .before in
     let x = t .before in
     let s = x .before .before in
     let i = s .before in
-    breaks-found _ _ _ _ _ _ _ _ _ (i .number .ensures) (compared _ _ _ _ (s .same .ensures) (rd-at _ (i .number .ok)) refl ∙ x .before .if1 .left) (i .before .before .pre .1) _ (x .block-ref .ensures) (compared _ _ _ _ (t .same2 .ensures) (rd-at _ (x .block-ref .ok)) refl ∙ f .before .if2 .left) (rd-at _ (x .block-ref .ok)) (rd-at _ (i .number .ok)) _ (f .find-once .ensures) (l .before .if3 .left) _ _ (l .found-length .ensures) (c .exceeds .ensures)
+    breaks-found _ _ _ _ _ _ _ _ _ (i .number .ensures) (compared _ _ _ _ (s .same .ensures) (rd-at _ (i .number .ok)) refl ∙ x .before .if1 .left) (i .before .before .pre .1 .1) _ (x .block-ref .ensures) (compared _ _ _ _ (t .same2 .ensures) (rd-at _ (x .block-ref .ok)) refl ∙ f .before .if2 .left) (rd-at _ (x .block-ref .ok)) (rd-at _ (i .number .ok)) _ (f .find-once .ensures) (l .before .if3 .left) _ _ (l .found-length .ensures) (c .exceeds .ensures)
 
 pub number-breaks-spec : {M : Type 1} → statement M
 number-breaks-spec =

@@ -2,6 +2,7 @@
 use mathlib.Core.Path.{refl, _∙_}
 use Rattle.signed.proofs.Machine.{rd-at}
 use Rattle.tables.proofs.Numbers.{compared}
+use Rattle.blocks.proofs.Timeless.{timed-all}
 use Rattle.blocks.proofs.Lasting.{outlasts-block, outlasts-other}
 use borrow.Author.Needs.{needs}
 use Rattle.blocks.proofs.outlasts.Statement.{statement}
@@ -14,10 +15,10 @@ same-requires : tie.Need-same-requires
 same-requires c κs = search needs
 
 block-length-requires : tie.Need-block-length-requires
-block-length-requires c κs = search needs
+block-length-requires c κs = (c .before .before .before .before .pre, timed-all _ _)
 
 longest-event-requires : tie.Need-longest-event-requires
-longest-event-requires c κs = search needs
+longest-event-requires c κs = (c .before .before .before .before .before .pre, timed-all _ _)
 
 exceeds-requires : tie.Need-exceeds-requires
 exceeds-requires c κs = search needs

@@ -7,10 +7,10 @@ use Rattle.blocks.proofs.some_breaks.Statement.{statement}
 use Rattle.blocks.proofs.some_breaks.Tie as tie
 
 abbrev Inv-loop : tie.InvT-loop
-Inv-loop edition rasters rows hints n samples k cap number₀ number = Asking edition rasters rows n samples k (cap .0) number
+Inv-loop edition rasters rows hints n samples k cap timed number₀ number = Asking edition rasters rows n samples k (cap .0) number
 
 abbrev μ-loop : tie.MeasureT-loop
-μ-loop edition rasters rows hints n samples k cap number₀ number = 9 - number
+μ-loop edition rasters rows hints n samples k cap timed number₀ number = 9 - number
 
 loop-holds : tie.Need-loop-holds Inv-loop μ-loop
 loop-holds c = asking-start _ _ _ _ _ _ _
@@ -35,7 +35,7 @@ loop-again c = let b = c .before in
     asking-turn _ _ _ _ _ _ _ _ (l .before .loop .inv) (l .loop-test .taken) (b .number-breaks .ensures) (c .if1 .left)
 
 returns-2 : tie.Need-returns-2 Inv-loop μ-loop
-returns-2 c = let l = c .before in asking-end _ _ _ _ _ _ _ _ (l .loop .inv) (c .loop-test .left) (l .before .before .pre .1)
+returns-2 c = let l = c .before in asking-end _ _ _ _ _ _ _ _ (l .loop .inv) (c .loop-test .left) (l .before .before .pre .1 .1)
 
 pub some-breaks-spec : {M : Type 1} → statement M
 some-breaks-spec =

@@ -23,7 +23,7 @@ is-block c = let s = c .before in
     sym (m .ensures) ∙ sameZ-true _ _ (compared _ _ _ _ (s .same .ensures) (rd-at _ (m .ok)) refl ∙ c .if1 .taken)
 
 block-breaks-requires : tie.Need-block-breaks-requires
-block-breaks-requires c κs = (c .before .before .before .before .pre, is-block c)
+block-breaks-requires c κs = let p = c .before .before .before .before .pre in (p .0, (p .1, is-block c))
 
 returns : tie.Need-returns
 returns c = any-block _ _ _ _ _ _ (is-block (c .before)) (c .block-breaks .ensures)

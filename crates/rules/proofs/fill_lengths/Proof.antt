@@ -2,22 +2,28 @@
 use borrow.Author.Needs.{needs}
 use Prim.Native.Nat.{_-_}
 use native.Mathlib.Omega.{arith}
-use Rattle.rules.proofs.Alike.{once-same}
+use Rattle.blocks.proofs.Timeless.{timed-told}
+use Rattle.rules.proofs.Alike.{once-same, timed-same}
 use Rattle.rules.proofs.Filling.{Filling, fill-start, fill-turn, fill-end}
 use Rattle.rules.proofs.fill_lengths.Statement.{statement}
 use Rattle.rules.proofs.fill_lengths.Tie as tie
 
 abbrev Inv-loop : tie.InvT-loop
-Inv-loop edition rasters rows₀ hints n samples k₀ rows k = Filling edition rasters rows₀ n samples rows k
+Inv-loop edition rasters rows₀ hints n samples timed k₀ rows k = Filling edition rasters rows₀ n samples rows k
 
 abbrev μ-loop : tie.MeasureT-loop
-μ-loop edition rasters rows₀ hints n samples k₀ rows k = n - k
+μ-loop edition rasters rows₀ hints n samples timed k₀ rows k = n - k
+
+has-triggers-requires : tie.Need-has-triggers-requires Inv-loop μ-loop
+has-triggers-requires c κs = search needs
 
 loop-holds : tie.Need-loop-holds Inv-loop μ-loop
 loop-holds c = fill-start _ _ _ _ _
 
 fill-row-requires : tie.Need-fill-row-requires Inv-loop μ-loop
-fill-row-requires c κs = let l = c .before .before in once-same _ _ (l .loop .inv .alike) _ (l .before .before .pre)
+fill-row-requires c κs = let l = c .before .before in
+    let t = l .before in
+    (once-same _ _ (l .loop .inv .alike) _ (t .before .before .before .pre), timed-same _ _ (l .loop .inv .alike) _ _ (timed-told _ _ (t .has-triggers .ensures)))
 
 add-k : tie.Need-add-k Inv-loop μ-loop
 add-k c = search needs
@@ -42,6 +48,7 @@ fill-lengths-spec =
     (tie.spec
     Inv-loop
     μ-loop
+    has-triggers-requires
     loop-holds
     fill-row-requires
     add-k

@@ -5,21 +5,25 @@ use mathlib.Core.Path.{_≡_, sym, _∙_}
 use native.Mathlib.Omega.{arith}
 use Rattle.tables.specs.Tables.{firstSuch}
 use Rattle.tables.proofs.Found.{such-start, such-here, such-further, such-none}
+use Rattle.blocks.proofs.Timeless.{timed-told}
 use Rattle.rules.specs.Inside.{breaksAny}
 use Rattle.rules.proofs.first_breaking.Statement.{statement}
 use Rattle.rules.proofs.first_breaking.Tie as tie
 
 abbrev Inv-loop : tie.InvT-loop
-Inv-loop edition rasters rows hints n samples k₀ k = (k ≤ n) × (firstSuch (breaksAny edition rasters rows n samples) k (n - k) ≡ firstSuch (breaksAny edition rasters rows n samples) 0 n)
+Inv-loop edition rasters rows hints n samples timed k₀ k = (k ≤ n) × (firstSuch (breaksAny edition rasters rows n samples) k (n - k) ≡ firstSuch (breaksAny edition rasters rows n samples) 0 n)
 
 abbrev μ-loop : tie.MeasureT-loop
-μ-loop edition rasters rows hints n samples k₀ k = n - k
+μ-loop edition rasters rows hints n samples timed k₀ k = n - k
+
+has-triggers-requires : tie.Need-has-triggers-requires Inv-loop μ-loop
+has-triggers-requires c κs = search needs
 
 loop-holds : tie.Need-loop-holds Inv-loop μ-loop
 loop-holds c = (omega arith, such-start _ _)
 
 breaks-any-requires : tie.Need-breaks-any-requires Inv-loop μ-loop
-breaks-any-requires c κs = search needs
+breaks-any-requires c κs = let t = c .before .before in (t .before .before .pre, timed-told _ _ (t .has-triggers .ensures))
 
 returns : tie.Need-returns Inv-loop μ-loop
 returns c = such-here _ _ _ (c .before .before .loop-test .taken) (sym (c .before .breaks-any .ensures) ∙ c .if1 .taken) ∙ c .before .before .before .loop .inv .1
@@ -42,6 +46,7 @@ first-breaking-spec =
     (tie.spec
     Inv-loop
     μ-loop
+    has-triggers-requires
     loop-holds
     breaks-any-requires
     returns
