@@ -1,4 +1,4 @@
-// How long blocks and extension chains last, and what is asked of blocks: LONG and OUTLASTS.
+// How long blocks and extension chains last, and what is asked of blocks: LONG and OUTLASTS, and in one pass all that a block can break.
 ghost use Rattle.tables.specs.Tables.{numberAt, NoneAgain};
 ghost use mathlib.Core.Path.{_≡_};
 ghost use lib.IntN.{pos};
