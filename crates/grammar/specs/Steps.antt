@@ -4,8 +4,9 @@ use mathlib.Core.Bool.{Bool, true, false, cond, not}
 use mathlib.Core.List.{List, [], _∷_}
 use lib.Dec.{eqb}
 use lib.IntN.{ℤ, pos}
-use lib.ListN.{getD, set}
+use lib.ListN.{getD, set, drop}
 use Rattle.fields.specs.Fields.{fieldsOf}
+use Rattle.text.specs.Lines.{bareOf, lineAt}
 use Rattle.text.specs.Marks.{markOf, breaksLine}
 use Rattle.text.specs.Words.{sameBytes}
 use Rattle.text.specs.declared.Mark.{Mark}
@@ -28,6 +29,7 @@ use Rattle.heads.specs.Heads.{labelOf, extensionOf, extensionWord, wordNumberOf
 use Rattle.heads.specs.declared.Head.{Head as HeadLine}
 use Rattle.heads.specs.declared.Head.the-variants.{Label, Extension, Bad as HeadBad}
 use Rattle.grammar.specs.Definitions.{isDefinition}
+use Rattle.grammar.specs.declared.Read.{Read}
 use Rattle.places.specs.declared.Lines.{Lines}
 use Rattle.places.specs.declared.Lines.the-variants.{None, Definitions, Rows, Shapes}
 use Rattle.places.specs.declared.Listed.{Listed}
@@ -160,3 +162,7 @@ markedStep st n line Plain = plainStep st n line (st .place)
 
 unfoldable pub stepOf : State → ℕ → List ℕ → Stepped
 stepOf st n line = cond (breaksLine line) (refusedOf st LineFault) (markedStep st n line (markOf line))
+
+-- ---- The same of the line that starts at a place of a text, and where the next one starts
+unfoldable pub readAt : State → ℕ → List ℕ → ℕ → Read
+readAt st n text at = record { did = stepOf st n (bareOf (drop at text)); next = lineAt text at .next }

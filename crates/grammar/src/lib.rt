@@ -3,13 +3,13 @@ ghost use mathlib.Core.Path.{_≡_};
 ghost use lib.IntN.{pos};
 ghost use mathlib.Core.List.{_∷_};
 ghost use Rattle.grammar.specs.Definitions.{valueOf, valuePart};
-ghost use Rattle.grammar.specs.Steps.{gaveOf, definedOf, blankStep, definitionStep, rowStep, labelStep, listedOf, extensionStep, listedStep, extensionsStep, headStep, countedOf, countStep, valueRow, linesStep, plainStep, stepOf};
+ghost use Rattle.grammar.specs.Steps.{gaveOf, definedOf, blankStep, definitionStep, rowStep, labelStep, listedOf, extensionStep, listedStep, extensionsStep, headStep, countedOf, countStep, valueRow, linesStep, plainStep, stepOf, readAt};
 ghost use Rattle.shape.specs.Stored.{itemOf};
 ghost use Rattle.fields.specs.Fields.{fieldsOf};
 ghost use Rattle.text.specs.Marks.{anyControl, breaksLine, markOf};
 ghost use mathlib.Core.Bool.{false, not};
 ghost use Prim.Native.Nat.{_≤_};
-ghost use lib.ListN.{replicate};
+ghost use lib.ListN.{length, replicate};
 use columns::Form;
 use fields::Part;
 use heads::Head;
@@ -23,6 +23,12 @@ use places::State;
 use places::Stepped;
 use shape::Item;
 use text::Mark;
+
+// A line that was read where it stands, and where the next line starts.
+pub struct Read {
+    pub did: Stepped,
+    pub next: usize,
+}
 
 // The largest ID.
 const LARGEST_ID: u64 = 2147483647;
@@ -310,4 +316,41 @@ pub fn step_cut(st: State, n: usize, line: &[u8], clean: bool) -> Stepped
         }
     }
     step(st, n, line)
+}
+
+// Line n of a file, which starts at a place, cut off.
+fn cut_step(st: State, n: usize, text: &[u8], at: usize) -> Read
+    requires { ⌜ at ≤ length (now text) ⌝ }
+    ensures { λ r. ⌜ r ≡ readAt st n (now (text .entry)) at ⌝ }
+{
+    let line = text::cut_line(text, at);
+    let stop = line.stop;
+    let did = step_cut(st, n, &text[at..stop], line.clean);
+    Read {
+        did,
+        next: line.next,
+    }
+}
+
+// Line n of a file, which starts at a place, where the file stands. Most lines are rows, which are read as such at once.
+pub fn read_line(st: State, n: usize, text: &[u8], at: usize) -> Read
+    requires { ⌜ at ≤ length (now text) ⌝ }
+    ensures { λ r. ⌜ r ≡ readAt st n (now (text .entry)) at ⌝ }
+{
+    let place = st.place;
+    if let Place::Section(lines) = place {
+        if let Lines::Rows(form) = lines {
+            let edition = st.edition;
+            let row = rows::line_row(edition, form, text, at);
+            if row.good {
+                let cells = row.cells;
+                let did = gave(st, n, cells);
+                return Read {
+                    did,
+                    next: row.next,
+                };
+            }
+        }
+    }
+    cut_step(st, n, text, at)
 }

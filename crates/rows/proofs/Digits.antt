@@ -2,6 +2,7 @@
 use Prim.Native.Nat.{ℕ, suc, _+_, _*_, _-_, _^_, _≤_, _<_, min}
 use mathlib.Core.Bool.{true, false, _&&_, and-false, false≢true}
 use mathlib.Core.List.{List, [], _∷_}
+use mathlib.Core.Logic.{⊎-elim}
 use mathlib.Core.Option.{none}
 use mathlib.Core.Path.{_≡_, refl, sym, ap, _∙_}
 use native.Mathlib.Nat.{add-zero, zero-add, lt-of-lt-of-le, pow-le-pow-right, pow-suc}
@@ -15,7 +16,8 @@ use lib.Seq.{drop-cons, length-take-le}
 use Rattle.signed.specs.Signed.{signedOf, largest}
 use Rattle.text.specs.Marks.{isBlank}
 use Rattle.text.specs.Blanks.{skipped}
-use Rattle.text.proofs.Cases.{cond-yes, cond-no}
+use Rattle.text.proofs.Cases.{true-or-false, lt-or-ge, cond-yes, cond-no}
+use Rattle.text.proofs.Places.{skip-stop}
 use Rattle.text.proofs.Cut.{add-sub-left}
 use Rattle.fields.specs.Fields.{fieldsOf, wordLen}
 use Rattle.fields.specs.declared.Part.{Part}
@@ -145,7 +147,29 @@ module _ (line : List ℕ) (at start : ℕ) (p : start ≡ skipped line at) wher
       let n = length-take-le (wordLen (drop start line)) (drop start line) (omega arith) in
       record { some = omega arith; field = rw n (rw add-sub-left at (f .field)) }
 
+-- where a word starts no blank is skipped
+pub word-begins : (line : List ℕ) (i : ℕ) → 1 ≤ length (wordAt line i) → WordThere line i i
+word-begins line i s =
+    ⊎-elim
+    (λ (h : i < length line). ⊎-elim
+    (λ (b : isBlank (getD line i 0) ≡ true). absurd (empty (word-stop line i h b)))
+    (λ (b : isBlank (getD line i 0) ≡ false). word-there line i i (skip-stop line i h b) h)
+    (true-or-false (isBlank (getD line i 0))))
+    (λ (h : length line ≤ i). absurd (empty (word-none line i h)))
+    (lt-or-ge i (length line))
+  where
+    empty : wordAt line i ≡ [] → ⊥
+    empty e = let n : length (wordAt line i) ≡ 0 = ap length e in omega arith
+
 -- ---- Digits that were gathered are the integer that the field is
+-- they stop behind the word
+pub gathered-stop : (v k i : ℕ) (w : List ℕ) (x y : ℕ) → gatheredOf v k i w ≡ Digits x y → i + length w ≡ y
+unfolding gatheredOf
+gathered-stop v k i w x y e =
+    let t = cond-yes (leb (k + length w) 10 && allDigits w) (Digits (valueFrom v w) (i + length w)) {y = Bad} {z = Digits x y} (λ q. let z : _≡_ {A = ℕ} 0 1 = cc in omega arith) e in
+    let f = t .1 in
+    cc
+
 module _ (low high start : ℕ) (w : List ℕ) (h : 1 ≤ length w) where
   whole : isInteger w ≡ leb (0 + length w) 10 && allDigits w
   unfolding isInteger
@@ -162,8 +186,7 @@ module _ (low high start : ℕ) (w : List ℕ) (h : 1 ≤ length w) where
       let t = cond-yes (leb (0 + length w) 10 && allDigits w) (Digits (valueOf w) (start + length w)) {y = Bad} {z = Digits v stop} (λ q. let z : _≡_ {A = ℕ} 0 1 = cc in omega arith) e in
       let f = t .1 in
       let x : valueOf w ≡ v = cc in
-      let y : start + length w ≡ stop = cc in
-      (sym (integer-value low high w (whole ∙ t .0)) ∙ ap (inRange low high) x, y)
+      (sym (integer-value low high w (whole ∙ t .0)) ∙ ap (inRange low high) x, gathered-stop 0 0 start w v stop e)
 
 -- ---- A column of an integer
 pub digits-present : (k : Kind) → byDigits k ≡ true → isAbsent k ≡ false
@@ -221,3 +244,8 @@ module _ {line : List ℕ} {at start : ℕ} (t : WordThere line at start) (kind 
             wide = one-wide kind (wordAt line start) z (digits-cell kind d (wordAt line start) ∙ sym c);
             rest = λ ks. rw (← (read .1), c) (row-integer ks);
           }
+
+-- a word that starts with no digit
+pub no-digits : {line : List ℕ} {at start : ℕ} → WordThere line at start → start < length line → isDigit (getD line start 0) ≡ false → isBlank (getD line start 0) ≡ false → (kind : Kind) → byDigits kind ≡ true
+    → (ks : List Kind) → rowFrom (kind ∷ ks) (fieldsOf (drop at line)) ≡ none
+no-digits {line} {at} {start} t h e f kind d ks = took-bad t kind d refl refl (rw (word-more line start h f) (sym (gathered-other 0 0 start (getD line start 0) (wordAt line (start + 1)) e))) ks

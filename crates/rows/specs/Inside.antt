@@ -1,14 +1,18 @@
 -- What the inner functions answer. Nothing here needs to be believed: laws lead from these to the definitions of the other files.
-use Prim.Native.Nat.{ℕ, _+_}
+use Prim.{Unit}
+use Prim.Native.Nat.{ℕ, _+_, _-_, _≤_, min}
 use mathlib.Core.Bool.{Bool, true, false, cond, _&&_}
 use mathlib.Core.List.{List, _∷_}
 use mathlib.Core.Option.{none}
 use mathlib.Core.Path.{_≡_}
 use lib.Dec.{leb}
 use lib.ListN.{length, take, drop}
+use Rattle.signed.specs.Signed.{signedOf, largest}
+use Rattle.text.specs.Lines.{bareOf}
+use Rattle.text.specs.Marks.{cutAt}
 use Rattle.fields.specs.Fields.{fieldsOf, wordLen}
 use Rattle.numeral.specs.Digits.{allDigits, valueFrom}
-use Rattle.columns.specs.Columns.{widthOf}
+use Rattle.columns.specs.Columns.{widthOf, leastOf, mostOf}
 use Rattle.columns.specs.declared.Kind.{Kind}
 use Rattle.columns.specs.declared.Kind.the-variants.{Id, Reference, Required, Micros, Duration, Count, Natural, Decimal, Dwell, Absent}
 use Rattle.rows.specs.Cells.{with, rowFrom}
@@ -49,3 +53,30 @@ abbrev pub TakenIs : List ℕ → ℕ → Kind → Taken → Type 0
 TakenIs line at kind (TakenOne v behind) = CellIs line at kind (One v) 1 behind
 TakenIs line at kind (TakenTwo a b behind) = CellIs line at kind (Two a b) 2 behind
 TakenIs line at kind TakenBad = (ks : List Kind) → rowFrom (kind ∷ ks) (fieldsOf (drop at line)) ≡ none
+
+-- a number in the range of a column
+abbrev pub fitsColumn : Kind → ℕ → Bool
+fitsColumn kind v = leb (leastOf kind) v && leb v (mostOf kind)
+
+-- a place of the line that starts at another one: from both on it is cut alike
+pub record Along (text : List ℕ) (at i : ℕ) : Type 0 where
+  pub later : at ≤ i
+  pub same : cutAt text i ≡ cutAt text at
+
+-- digits that stand in a text, as the first word of the line from a place on; nothing is said of other words
+pub record WordIs (text : List ℕ) (start v stop : ℕ) : Type 0 where
+  pub along : Along text start stop
+  pub word : Digits v (stop - start) ≡ gatheredOf 0 0 0 (wordAt (bareOf (drop start text)) 0)
+
+abbrev pub GatheredIs : List ℕ → ℕ → Gathered → Type 0
+GatheredIs text start (Digits v stop) = WordIs text start v stop
+GatheredIs text start GatheredBad = Unit
+
+-- a number that stands in a text for a column; nothing is said where none was taken
+pub record NumberIs (text : List ℕ) (at : ℕ) (kind : Kind) (v stop : ℕ) : Type 0 where
+  pub along : Along text at stop
+  pub cell : CellIs (bareOf (drop at text)) 0 kind (One (signedOf false (min v largest))) 1 (stop - at)
+
+abbrev pub ColumnIs : List ℕ → ℕ → Kind → Gathered → Type 0
+ColumnIs text at kind (Digits v stop) = NumberIs text at kind v stop
+ColumnIs text at kind GatheredBad = Unit

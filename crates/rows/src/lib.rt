@@ -1,12 +1,15 @@
-// Rows: a line read by the columns of its section into a row's twelve numbers.
+// Rows: a line read by the columns of its section into a row's twelve numbers, by itself or where it stands in a text.
+ghost use Prim.Native.Nat.{_<_, _≤_};
 ghost use mathlib.Core.Path.{_≡_};
+ghost use lib.ListN.{length, getD};
 ghost use mathlib.Core.Bool.{true, false};
 ghost use mathlib.Core.Option.{none};
 ghost use Rattle.fields.specs.Fields.{fieldsOf};
 ghost use Rattle.decimals.specs.Decimal.{decimalOf};
 ghost use Rattle.columns.specs.Columns.{columnsOf, isAbsent, leastOf, mostOf};
 ghost use Rattle.rows.specs.Cells.{integerCell, decimalCell, dwellCell, cellOf, rowFrom, rowIs};
-ghost use Rattle.rows.specs.Inside.{byDigits, wordAt, gatheredOf, TakenIs};
+ghost use Rattle.rows.specs.Placed.{placedRow, lineRowOf};
+ghost use Rattle.rows.specs.Inside.{byDigits, wordAt, gatheredOf, TakenIs, fitsColumn, GatheredIs, ColumnIs};
 use columns::Form;
 use columns::Kind;
 use decimals::Number;
@@ -37,6 +40,13 @@ enum Taken {
 pub struct Row {
     pub good: bool,
     pub cells: [i64; 12],
+}
+
+// A line of a section read as a row: whether it is one that may stand in a file, its numbers, and where the next line starts.
+pub struct RowLine {
+    pub good: bool,
+    pub cells: [i64; 12],
+    pub next: usize,
 }
 
 // The largest ID, type, channel and reference.
@@ -279,4 +289,149 @@ pub fn read_row(edition: Edition, form: Form, line: &[u8]) -> Row
         return bad_row();
     }
     Row { good: true, cells }
+}
+
+// A row, and where the line behind it starts.
+fn placed(row: Row, next: usize) -> RowLine
+    ensures { λ r. ⌜ r ≡ placedRow row next ⌝ }
+{
+    let good = row.good;
+    let cells = row.cells;
+    RowLine { good, cells, next }
+}
+
+// Does a number fit a column of a block, the last of which no field stands for?
+fn fits_block(edition: Edition, j: usize, v: u64) -> bool
+    requires { ⌜ j < 8 ⌝ }
+    ensures { λ r. ⌜ r ≡ fitsColumn (getD (columnsOf edition Form.Block) j Kind.Absent) v ⌝ }
+{
+    if j == 0 {
+        if v == 0 {
+            return false;
+        }
+        return v <= LARGEST_ID;
+    }
+    if j == 1 {
+        return match edition {
+            Edition::V13 => v <= LARGEST_ID,
+            Edition::V14 => v <= 1000000000,
+        };
+    }
+    v <= LARGEST_ID
+}
+
+// Gathers the digits of a text from a place on, up to a blank or the LF: at most 10, and nothing else.
+fn gather_line(text: &[u8], start: usize) -> Gathered
+    ensures { λ r. ⌜ GatheredIs (now (text .entry)) start r ⌝ }
+{
+    let mut v: u64 = 0;
+    let mut i = start;
+    while i < text.len() {
+        let b = text[i];
+        if b < 48 {
+            if b == 10 {
+                return Gathered::Digits(v, i);
+            }
+            if text::is_blank(b) {
+                return Gathered::Digits(v, i);
+            }
+            return Gathered::Bad;
+        }
+        if 57 < b {
+            return Gathered::Bad;
+        }
+        if 9 < i - start {
+            return Gathered::Bad;
+        }
+        v = v * 10 + (b - 48) as u64;
+        i += 1;
+    }
+    Gathered::Bad
+}
+
+// The number that a line of a text holds from a place on for a column of a block.
+fn block_number(edition: Edition, text: &[u8], at: usize, j: usize) -> Gathered
+    requires { ⌜ j < 8 ⌝ }
+    ensures { λ r. ⌜ ColumnIs (now (text .entry)) at (getD (columnsOf edition Form.Block) j Kind.Absent) r ⌝ }
+{
+    let start = text::skip(text, at);
+    match gather_line(text, start) {
+        Gathered::Digits(v, stop) => {
+            if stop <= start {
+                return Gathered::Bad;
+            }
+            if !fits_block(edition, j, v) {
+                return Gathered::Bad;
+            }
+            Gathered::Digits(v, stop)
+        }
+        Gathered::Bad => Gathered::Bad,
+    }
+}
+
+// A line of a text read as a block in one walk, if it is one as most are: what is not good here may still be a block.
+fn quick_block(edition: Edition, text: &[u8], at: usize) -> RowLine
+    ensures { λ r. ⌜ (r .good ≡ true → r ≡ lineRowOf edition Form.Block (now (text .entry)) at) ⌝ }
+{
+    let mut cells = [0i64; 12];
+    cells[0] = 1;
+    let mut i = at;
+    let mut j: usize = 0;
+    while j < 8 {
+        match block_number(edition, text, i, j) {
+            Gathered::Digits(v, stop) => {
+                let number = signed::with_sign(false, v);
+                j += 1;
+                cells[j] = number;
+                i = stop;
+            }
+            Gathered::Bad => {
+                return placed(bad_row(), at);
+            }
+        }
+    }
+    cells[9] = 0;
+    let stop = text::skip(text, i);
+    if stop < text.len() {
+        if text[stop] == 10 {
+            if stop - at <= 1024 {
+                return RowLine {
+                    good: true,
+                    cells,
+                    next: stop + 1,
+                };
+            }
+        }
+    }
+    placed(bad_row(), at)
+}
+
+// A line of a text cut off and read as a row.
+fn cut_row(edition: Edition, form: Form, text: &[u8], at: usize) -> RowLine
+    requires { ⌜ at ≤ length (now text) ⌝ }
+    ensures { λ r. ⌜ r ≡ lineRowOf edition form (now (text .entry)) at ⌝ }
+{
+    let line = text::cut_line(text, at);
+    let stop = line.stop;
+    if !line.clean {
+        return placed(bad_row(), line.next);
+    }
+    if 1024 < stop - at {
+        return placed(bad_row(), line.next);
+    }
+    placed(read_row(edition, form, &text[at..stop]), line.next)
+}
+
+// The line of a text that starts at a place, read as a row of a form.
+pub fn line_row(edition: Edition, form: Form, text: &[u8], at: usize) -> RowLine
+    requires { ⌜ at ≤ length (now text) ⌝ }
+    ensures { λ r. ⌜ r ≡ lineRowOf edition form (now (text .entry)) at ⌝ }
+{
+    if let Form::Block = form {
+        let row = quick_block(edition, text, at);
+        if row.good {
+            return row;
+        }
+    }
+    cut_row(edition, form, text, at)
 }

@@ -1,0 +1,69 @@
+-- Lines read where they stand in a text: cut off, or as a row at once; and what a caller learns of one. Assumes nothing.
+use Prim.Native.Nat.{ℕ, _-_, _<_}
+use mathlib.Core.Bool.{true}
+use mathlib.Core.List.{List}
+use mathlib.Core.Path.{_≡_, refl, ap, _∙_}
+use lib.ListN.{length, take, drop}
+use Rattle.text.specs.Lines.{bareOf, lineAt}
+use Rattle.text.specs.Marks.{markOf, cutAt}
+use Rattle.text.specs.declared.Line.{Line}
+use Rattle.text.specs.declared.Piece.{Piece}
+use Rattle.text.specs.declared.Mark.{Mark}
+use Rattle.text.specs.declared.Mark.the-variants.{Plain}
+use Rattle.text.proofs.Cut.{LineAt, line-at, add-sub-left}
+use Rattle.fields.specs.Fields.{fieldsOf}
+use Rattle.columns.specs.declared.Form.{Form}
+use Rattle.rows.specs.Placed.{lineRowOf}
+use Rattle.rows.specs.declared.RowLine.{RowLine}
+use Rattle.rows.proofs.CutRows.{cut-bare, cut-next, good-row}
+use Rattle.places.specs.declared.Lines.{Lines}
+use Rattle.places.specs.declared.Lines.the-variants.{Rows}
+use Rattle.places.specs.declared.Place.{Place}
+use Rattle.places.specs.declared.Place.the-variants.{Section}
+use Rattle.places.specs.declared.State.{State}
+use Rattle.places.specs.declared.Stepped.{Stepped}
+use Rattle.grammar.specs.Steps.{gaveOf, linesStep, plainStep, markedStep, stepOf, readAt}
+use Rattle.grammar.specs.declared.Read.{Read}
+use Rattle.grammar.proofs.Answers.{row-given, line-marked}
+
+module _ (st : State) (n : ℕ) (text : List ℕ) (at : ℕ) where
+  read-is : (did : Stepped) (next : ℕ) → did ≡ stepOf st n (bareOf (drop at text)) → next ≡ lineAt text at .next → _≡_ {A = Read} (record { did = did; next = next }) (readAt st n text at)
+  unfolding readAt
+  read-is did next p q = rw (p, q)
+
+  -- ---- a line cut off
+  pub read-cut : (r : Piece) → r ≡ cutAt text at → (did : Stepped) → did ≡ stepOf st n (take (r .stop - at) (drop at text))
+      → _≡_ {A = Read} (record { did = did; next = r .next }) (readAt st n text at)
+  read-cut r p did q = read-is did (r .next) (q ∙ ap (stepOf st n) (cut-bare text at r p)) (cut-next text at r p)
+
+  -- ---- a line of rows that is a row is a plain line
+  rows-step : (line : List ℕ) (form : Form) (place : Place) → place ≡ Section (Rows form) → (m : Mark) → m ≡ Plain → place ≡ st .place → linesStep st n line (Rows form) ≡ markedStep st n line m
+  unfolding plainStep markedStep
+  rows-step line form place p m q e = rw (q, ← e, p)
+
+  pub read-row : (lines : Lines) (form : Form) → st .place ≡ Section lines → lines ≡ Rows form → (r : RowLine) → r ≡ lineRowOf (st .edition) form text at → r .good ≡ true → (did : Stepped)
+      → did ≡ gaveOf st n (r .cells) → _≡_ {A = Read} (record { did = did; next = r .next }) (readAt st n text at)
+  unfolding linesStep
+  read-row lines form p q r e g did d =
+      let x = good-row (st .edition) form text at r e g in
+      let line = bareOf (drop at text) in
+      read-is did (r .next)
+      (d ∙ row-given st n form (fieldsOf line) (record { good = true; cells = r .cells }) (x .row) refl ∙ rows-step line form (st .place) (p ∙ ap Section q) (markOf line) (x .plain) refl
+      ∙ line-marked st n line (x .allowed))
+      (x .next)
+
+  -- ---- what a caller learns: the line that was read
+  module _ (r : Read) (p : r ≡ readAt st n text at) where
+    abbrev pub lineOf : Line
+    lineOf = record { stop = lineAt text at .stop; next = r .next }
+
+    next-is : r .next ≡ lineAt text at .next
+    unfolding readAt
+    next-is = ap (λ (x : Read). x .next) p
+
+    pub read-at : at < length text → LineAt text at lineOf
+    read-at h = line-at text at lineOf (ap (λ (k : ℕ). record { stop = lineAt text at .stop; next = k }) next-is) h
+
+    pub read-did : r .did ≡ stepOf st n (take (lineOf .stop - at) (drop at text))
+    unfolding readAt lineAt bareOf
+    read-did = ap (λ (x : Read). x .did) p ∙ rw add-sub-left
