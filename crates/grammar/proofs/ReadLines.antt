@@ -26,6 +26,10 @@ use Rattle.grammar.specs.Steps.{gaveOf, linesStep, plainStep, markedStep
 use Rattle.grammar.specs.declared.Read.{Read}
 use Rattle.grammar.proofs.Answers.{row-given, line-marked}
 
+-- the line of a text that was read at a place
+abbrev pub lineIn : List ℕ → ℕ → Read → Line
+lineIn text at r = record { stop = lineAt text at .stop; next = r .next }
+
 module _ (st : State) (n : ℕ) (text : List ℕ) (at : ℕ) where
   read-is : (did : Stepped) (next : ℕ) → did ≡ stepOf st n (bareOf (drop at text)) → next ≡ lineAt text at .next → _≡_ {A = Read} (record { did = did; next = next }) (readAt st n text at)
   unfolding readAt
@@ -52,18 +56,15 @@ module _ (st : State) (n : ℕ) (text : List ℕ) (at : ℕ) where
       ∙ line-marked st n line (x .allowed))
       (x .next)
 
-  -- ---- what a caller learns: the line that was read
+  -- ---- what a caller learns: the line that was read, and its step
   module _ (r : Read) (p : r ≡ readAt st n text at) where
-    abbrev pub lineOf : Line
-    lineOf = record { stop = lineAt text at .stop; next = r .next }
-
     next-is : r .next ≡ lineAt text at .next
     unfolding readAt
     next-is = ap (λ (x : Read). x .next) p
 
-    pub read-at : at < length text → LineAt text at lineOf
-    read-at h = line-at text at lineOf (ap (λ (k : ℕ). record { stop = lineAt text at .stop; next = k }) next-is) h
+    pub read-at : at < length text → LineAt text at (lineIn text at r)
+    read-at h = line-at text at (lineIn text at r) (ap (λ (k : ℕ). record { stop = lineAt text at .stop; next = k }) next-is) h
 
-    pub read-did : r .did ≡ stepOf st n (take (lineOf .stop - at) (drop at text))
+    pub read-did : r .did ≡ stepOf st n (take (lineIn text at r .stop - at) (drop at text))
     unfolding readAt lineAt bareOf
     read-did = ap (λ (x : Read). x .did) p ∙ rw add-sub-left

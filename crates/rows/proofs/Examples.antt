@@ -1,11 +1,13 @@
 -- Worked examples, computed from the definitions. Assumes nothing.
 use Prim.Native.Nat.{ℕ}
+use mathlib.Core.Bool.{true, false}
 use mathlib.Core.List.{List, [], _∷_}
 use mathlib.Core.Option.{Option, none, some}
 use mathlib.Core.Path.{_≡_, refl}
 use lib.IntN.{ℤ, pos, negsuc}
-use Rattle.text.specs.Lines.{onto}
-use Rattle.text.specs.Marks.{isBlank}
+use lib.ListN.{replicate}
+use Rattle.text.specs.Lines.{onto, startsLF, bareLen, passLen, bareOf, lineAt}
+use Rattle.text.specs.Marks.{isBlank, markOf, isComment, isControl, anyControl, breaksLine}
 use Rattle.fields.specs.Fields.{endsField, fieldsOf}
 use Rattle.signed.specs.Signed.{isNegative, signedOf}
 use Rattle.numeral.specs.Digits.{isDigit, allDigits, valueFrom, isMinus, signLen}
@@ -15,7 +17,9 @@ use Rattle.numeral.specs.Worth.{wholeAt, wholeOf}
 use Rattle.shape.specs.declared.Edition.{Edition}
 use Rattle.shape.specs.declared.Edition.the-variants.{V13, V14}
 use Rattle.columns.specs.Columns.{columnsOf}
-use Rattle.rows.specs.Cells.{naturalCell, decimalCell, dwellCell, integerCell, cellOf, with, rowFrom}
+use Rattle.columns.specs.Rows.{padded}
+use Rattle.rows.specs.Cells.{naturalCell, decimalCell, dwellCell, integerCell, cellOf, with, rowFrom, rowIs}
+use Rattle.rows.specs.Placed.{allowedRow, placedRow, lineRowOf}
 use Rattle.columns.specs.declared.Form.{Form}
 use Rattle.columns.specs.declared.Form.the-variants.{Block, Gradient, Adc, Delay, Entry}
 
@@ -38,3 +42,13 @@ rows : Lines (
     ∷ [])
 unfolding onto isBlank endsField fieldsOf isNegative signedOf isDigit allDigits valueFrom isMinus signLen inRange isInteger integerOf upTo whole fraction digits isMantissa mantissaPart exponentPart isExponent exponentOf stripIn stripFrom kept inLimits isUnsigned keptOf decimalOf wholeAt wholeOf columnsOf naturalCell decimalCell dwellCell integerCell cellOf with rowFrom
 rows = next refl (next refl (next refl (next refl (next refl (next refl (next refl (next refl (next refl done))))))))
+
+-- the second line of "#", "1 100" with CR and LF, "2"
+second-line : lineRowOf V13 Delay (35 ∷ 10 ∷ 49 ∷ 32 ∷ 49 ∷ 48 ∷ 48 ∷ 13 ∷ 10 ∷ 50 ∷ []) 2 ≡ record { good = true; cells = pos 6 ∷ pos 1 ∷ pos 100 ∷ replicate 9 (pos 0); next = 9 }
+unfolding onto isBlank endsField fieldsOf isDigit allDigits valueFrom inRange isInteger integerOf columnsOf naturalCell integerCell cellOf with rowFrom startsLF bareLen passLen bareOf lineAt markOf isComment isControl anyControl breaksLine padded rowIs allowedRow placedRow lineRowOf
+second-line = refl
+
+-- a comment that holds the byte 1
+comment-line : lineRowOf V13 Delay (35 ∷ 1 ∷ 10 ∷ []) 0 ≡ record { good = false; cells = replicate 12 (pos 0); next = 3 }
+unfolding onto isBlank endsField fieldsOf isDigit allDigits valueFrom inRange isInteger integerOf columnsOf naturalCell integerCell cellOf with rowFrom startsLF bareLen passLen bareOf lineAt markOf isComment isControl anyControl breaksLine rowIs allowedRow placedRow lineRowOf
+comment-line = refl
