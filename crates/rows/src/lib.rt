@@ -300,7 +300,7 @@ fn placed(row: Row, next: usize) -> RowLine
     RowLine { good, cells, next }
 }
 
-// Does a number fit a column of a block, the last of which no field stands for?
+// Does a number fit a column of a block that a field stands for?
 fn fits_block(edition: Edition, j: usize, v: u64) -> bool
     requires { ⌜ j < 8 ⌝ }
     ensures { λ r. ⌜ r ≡ fitsColumn (getD (columnsOf edition Form.Block) j Kind.Absent) v ⌝ }
