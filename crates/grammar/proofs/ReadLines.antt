@@ -1,8 +1,8 @@
 -- Lines read where they stand in a text: cut off, or as a row at once; and what a caller learns of one. Assumes nothing.
 use Prim.Native.Nat.{ℕ, _-_, _<_}
 use mathlib.Core.Bool.{true}
-use mathlib.Core.List.{List}
-use mathlib.Core.Path.{_≡_, refl, ap, _∙_}
+use mathlib.Core.List.{List, []}
+use mathlib.Core.Path.{_≡_, refl, sym, ap, _∙_}
 use lib.ListN.{length, take, drop}
 use Rattle.text.specs.Lines.{bareOf, lineAt}
 use Rattle.text.specs.Marks.{markOf, cutAt}
@@ -15,7 +15,7 @@ use Rattle.fields.specs.Fields.{fieldsOf}
 use Rattle.columns.specs.declared.Form.{Form}
 use Rattle.rows.specs.Placed.{lineRowOf}
 use Rattle.rows.specs.declared.RowLine.{RowLine}
-use Rattle.rows.proofs.CutRows.{cut-bare, cut-next, good-row}
+use Rattle.rows.proofs.CutRows.{cut-past, cut-bare, cut-next, good-row}
 use Rattle.places.specs.declared.Lines.{Lines}
 use Rattle.places.specs.declared.Lines.the-variants.{Rows}
 use Rattle.places.specs.declared.Place.{Place}
@@ -39,6 +39,10 @@ module _ (st : State) (n : ℕ) (text : List ℕ) (at : ℕ) where
   pub read-cut : (r : Piece) → r ≡ cutAt text at → (did : Stepped) → did ≡ stepOf st n (take (r .stop - at) (drop at text))
       → _≡_ {A = Read} (record { did = did; next = r .next }) (readAt st n text at)
   read-cut r p did q = read-is did (r .next) (q ∙ ap (stepOf st n) (cut-bare text at r p)) (cut-next text at r p)
+
+  -- no line starts past the end
+  pub read-past : (r : Piece) → r ≡ cutAt text at → length text < r .stop → (did : Stepped) → did ≡ stepOf st n [] → _≡_ {A = Read} (record { did = did; next = r .next }) (readAt st n text at)
+  read-past r p h did q = read-is did (r .next) (q ∙ ap (stepOf st n) (sym (cut-past text at r p h))) (cut-next text at r p)
 
   -- ---- a line of rows that is a row is a plain line
   rows-step : (line : List ℕ) (form : Form) (place : Place) → place ≡ Section (Rows form) → (m : Mark) → m ≡ Plain → place ≡ st .place → linesStep st n line (Rows form) ≡ markedStep st n line m

@@ -9,7 +9,7 @@ ghost use Rattle.fields.specs.Fields.{fieldsOf};
 ghost use Rattle.text.specs.Marks.{anyControl, breaksLine, markOf};
 ghost use mathlib.Core.Bool.{false, not};
 ghost use Prim.Native.Nat.{_≤_};
-ghost use lib.ListN.{length, replicate};
+ghost use lib.ListN.{replicate};
 use columns::Form;
 use fields::Part;
 use heads::Head;
@@ -318,23 +318,23 @@ pub fn step_cut(st: State, n: usize, line: &[u8], clean: bool) -> Stepped
     step(st, n, line)
 }
 
-// Line n of a file, which starts at a place, cut off.
+// Line n of a file, which starts at a place, cut off; past the end of the file it is empty.
 fn cut_step(st: State, n: usize, text: &[u8], at: usize) -> Read
-    requires { ⌜ at ≤ length (now text) ⌝ }
     ensures { λ r. ⌜ r ≡ readAt st n (now (text .entry)) at ⌝ }
 {
     let line = text::cut_line(text, at);
     let stop = line.stop;
-    let did = step_cut(st, n, &text[at..stop], line.clean);
-    Read {
-        did,
-        next: line.next,
+    let next = line.next;
+    if text.len() < stop {
+        let did = step(st, n, &text[..0]);
+        return Read { did, next };
     }
+    let did = step_cut(st, n, &text[at..stop], line.clean);
+    Read { did, next }
 }
 
 // Line n of a file, which starts at a place, where the file stands. Most lines are rows, which are read as such at once.
 pub fn read_line(st: State, n: usize, text: &[u8], at: usize) -> Read
-    requires { ⌜ at ≤ length (now text) ⌝ }
     ensures { λ r. ⌜ r ≡ readAt st n (now (text .entry)) at ⌝ }
 {
     let place = st.place;

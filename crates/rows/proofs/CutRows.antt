@@ -1,7 +1,7 @@
 -- A line cut off a text and read as a row; and that only a plain line is one. Assumes nothing.
 use Prim.Native.Nat.{ℕ, _+_, _-_, _≤_, _<_}
 use mathlib.Core.Bool.{Bool, true, false, cond, not, false≢true}
-use mathlib.Core.List.{List, _∷_}
+use mathlib.Core.List.{List, [], _∷_}
 use mathlib.Core.Logic.{⊎-elim}
 use mathlib.Core.Option.{Option, none, some}
 use mathlib.Core.Path.{_≡_, refl, sym, ap, _∙_}
@@ -93,17 +93,28 @@ module _ (edition : Edition) (form : Form) (line : List ℕ) where
   unfolding isComment
   not-comment = refl
 
-  pub row-control : anyControl line ≡ true → rowIs Block none ≡ allowedRow edition form line
-  row-control e =
-      ⊎-elim (λ (h : 1024 < length line). row-broken (sym (breaks-long line h))) (λ (h : length line ≤ 1024). go h (rowFrom (columnsOf edition form) (fieldsOf line)) refl) (lt-or-ge 1024 (length line))
+  -- no row, whether LINE refuses the line or not
+  row-none : rowFrom (columnsOf edition form) (fieldsOf line) ≡ none → rowIs Block none ≡ allowedRow edition form line
+  row-none p = either (breaksLine line) ∙ sym (row-is p)
     where
       either : (b : Bool) → rowIs Block none ≡ rowIs form (cond b none none)
       either true = no-row form none refl
       either false = no-row form none refl
 
+  pub row-control : anyControl line ≡ true → rowIs Block none ≡ allowedRow edition form line
+  row-control e =
+      ⊎-elim (λ (h : 1024 < length line). row-broken (sym (breaks-long line h)))
+      (λ (h : length line ≤ 1024). go h (rowFrom (columnsOf edition form) (fieldsOf line)) refl)
+      (lt-or-ge 1024 (length line))
+    where
       go : length line ≤ 1024 → (o : Option (List ℤ)) → rowFrom (columnsOf edition form) (fieldsOf line) ≡ o → rowIs Block none ≡ allowedRow edition form line
-      go h none p = either (breaksLine line) ∙ sym (row-is p)
+      go h none p = row-none p
       go h (some vs) p = row-broken (sym (breaks-other line h (markOf line) refl Plain (row-plain edition form line vs p) not-comment) ∙ e)
+
+-- an empty line is none
+empty-none : (edition : Edition) (form : Form) → rowFrom (columnsOf edition form) (fieldsOf []) ≡ none
+unfolding fieldsOf
+empty-none edition form = rw (id-first edition form) (row-short Id (drop 1 (columnsOf edition form)) refl)
 
 -- ---- A line cut off
 module _ (text : List ℕ) (at : ℕ) (r : Piece) (p : r ≡ cutAt text at) where
@@ -114,22 +125,22 @@ module _ (text : List ℕ) (at : ℕ) (r : Piece) (p : r ≡ cutAt text at) wher
   pub cut-later : at ≤ r .stop
   cut-later = omega (arith, stops)
 
-  pub cut-inside : at ≤ length text → r .stop ≤ length text
-  unfolding bareLen
-  cut-inside h =
+  -- the line that starts past the end is empty
+  pub cut-past : length text < r .stop → bareOf (drop at text) ≡ []
+  unfolding bareOf bareLen
+  cut-past h =
       ⊎-elim
-      (λ (k : at < length text). cut-at text at r p k .within)
-      (λ (k : length text ≤ at). let e : bareLen (drop at text) ≡ 0 = rw (drop-of-length-le text k) in omega (arith, stops))
+      (λ (k : at < length text). absurd (omega (arith, cut-at text at r p k .within)))
+      (λ (k : length text ≤ at). rw (drop-of-length-le text k))
       (lt-or-ge at (length text))
 
   pub cut-bare : take (r .stop - at) (drop at text) ≡ bareOf (drop at text)
   unfolding bareOf
   cut-bare = rw (stops, add-sub-left)
 
-  cut-long : at ≤ length text → length (bareOf (drop at text)) ≡ r .stop - at
+  cut-long : r .stop ≤ length text → length (bareOf (drop at text)) ≡ r .stop - at
   unfolding bareOf
   cut-long h =
-      let n = cut-inside h in
       let d = length-drop at text in
       let s = stops in
       let e : bareLen (drop at text) ≡ r .stop - at = omega arith in
@@ -149,11 +160,14 @@ module _ (text : List ℕ) (at : ℕ) (r : Piece) (p : r ≡ cutAt text at) wher
     unfolding lineRowOf
     placed-as e = q ∙ rw (e, cut-next)
 
-    -- a byte that only a comment may hold, a long line, and a line that may stand in a file
+    -- a byte that only a comment may hold, no line at all, a long line, and a line that may stand in a file
     pub row-unclean : row ≡ rowIs Block none → r .clean ≡ false → a ≡ lineRowOf edition form text at
     row-unclean e f = placed-as (e ∙ row-control edition form (bareOf (drop at text)) (not-false _ (sym clean-is ∙ f)))
 
-    module _ (h : at ≤ length text) where
+    pub row-past : row ≡ rowIs Block none → length text < r .stop → a ≡ lineRowOf edition form text at
+    row-past e h = placed-as (e ∙ rw (cut-past h) (row-none edition form [] (empty-none edition form)))
+
+    module _ (h : r .stop ≤ length text) where
       pub row-long : row ≡ rowIs Block none → 1024 < r .stop - at → a ≡ lineRowOf edition form text at
       row-long e k = placed-as (e ∙ row-broken edition form (bareOf (drop at text)) (sym (breaks-long (bareOf (drop at text)) (rw (cut-long h) k))))
 

@@ -1,7 +1,7 @@
 // Rows: a line read by the columns of its section into a row's twelve numbers, by itself or where it stands in a text.
-ghost use Prim.Native.Nat.{_<_, _≤_};
+ghost use Prim.Native.Nat.{_<_};
 ghost use mathlib.Core.Path.{_≡_};
-ghost use lib.ListN.{length, getD};
+ghost use lib.ListN.{getD};
 ghost use mathlib.Core.Bool.{true, false};
 ghost use mathlib.Core.Option.{none};
 ghost use Rattle.fields.specs.Fields.{fieldsOf};
@@ -406,14 +406,16 @@ fn quick_block(edition: Edition, text: &[u8], at: usize) -> RowLine
     placed(bad_row(), at)
 }
 
-// A line of a text cut off and read as a row.
+// A line of a text cut off and read as a row; past the end of the text there is none.
 fn cut_row(edition: Edition, form: Form, text: &[u8], at: usize) -> RowLine
-    requires { ⌜ at ≤ length (now text) ⌝ }
     ensures { λ r. ⌜ r ≡ lineRowOf edition form (now (text .entry)) at ⌝ }
 {
     let line = text::cut_line(text, at);
     let stop = line.stop;
     if !line.clean {
+        return placed(bad_row(), line.next);
+    }
+    if text.len() < stop {
         return placed(bad_row(), line.next);
     }
     if 1024 < stop - at {
@@ -424,7 +426,6 @@ fn cut_row(edition: Edition, form: Form, text: &[u8], at: usize) -> RowLine
 
 // The line of a text that starts at a place, read as a row of a form.
 pub fn line_row(edition: Edition, form: Form, text: &[u8], at: usize) -> RowLine
-    requires { ⌜ at ≤ length (now text) ⌝ }
     ensures { λ r. ⌜ r ≡ lineRowOf edition form (now (text .entry)) at ⌝ }
 {
     if let Form::Block = form {
