@@ -1,3 +1,4 @@
 -- The laws of events by themselves.
 pub mod Fitting
+pub mod Marking
 pub mod Aligning

@@ -1,3 +1,4 @@
--- What must be believed of events by themselves.
+-- What must be believed of events by themselves; then what the inner functions answer.
 pub mod Use
 pub mod Align
+pub mod Inside

@@ -4,7 +4,7 @@ ghost use Rattle.tables.specs.Tables.{firstSuch, NoneAgain};
 ghost use mathlib.Core.Path.{_≡_};
 ghost use Rattle.blocks.specs.Inside.{Timed};
 ghost use Rattle.rules.specs.Rules.{ruleNumber, alignBroken, outlastsBroken, isBroken, firstBroken};
-ghost use Rattle.rules.specs.Inside.{breaksAny};
+ghost use Rattle.rules.specs.Inside.{breaksOther, breaksAny};
 ghost use Rattle.rules.specs.Filled.{lengthNumber, withLength, filled};
 use shape::Edition;
 use unit::Rasters;
@@ -88,8 +88,8 @@ pub fn is_broken(
     }
 }
 
-// Does row k, of n rows, break any rule? What can be broken by a block is asked in one pass over its numbers.
-fn breaks_any(
+// Does row k, of n rows, break any rule but USE? What can be broken by a block is asked in one pass over its numbers.
+fn breaks_other(
     edition: Edition,
     rasters: Rasters,
     rows: &[i64],
@@ -101,7 +101,7 @@ fn breaks_any(
 ) -> bool
     requires { ⌜ NoneAgain (now rows) n ⌝ }
     requires { ⌜ Timed timed (now rows) n ⌝ }
-    ensures { λ r. ⌜ r ≡ breaksAny edition rasters (now (rows .entry)) n (now (samples .entry)) k ⌝ }
+    ensures { λ r. ⌜ r ≡ breaksOther edition rasters (now (rows .entry)) n (now (samples .entry)) k ⌝ }
 {
     if signed::same(tables::number(rows, k, 0), 1) {
         return blocks::block_breaks(edition, rasters, rows, hints, n, samples, k, timed);
@@ -112,13 +112,33 @@ fn breaks_any(
     if chains::loops(rows, hints, n, k) {
         return true;
     }
-    if events::misfits(rows, hints, n, samples, k) {
-        return true;
-    }
     breaks_align(edition, rasters, rows, k)
 }
 
-// The first of n rows that breaks any rule; n if none does. Each row is looked at once.
+// The first of n rows that breaks any rule but USE; n if none does. Each row is looked at once.
+fn first_other(
+    edition: Edition,
+    rasters: Rasters,
+    rows: &[i64],
+    hints: &[u16],
+    n: usize,
+    samples: &[i64],
+) -> usize
+    requires { ⌜ NoneAgain (now rows) n ⌝ }
+    ensures { λ r. ⌜ r ≡ firstSuch (breaksOther edition rasters (now (rows .entry)) n (now (samples .entry))) 0 n ⌝ }
+{
+    let timed = blocks::has_triggers(rows, n);
+    let mut k: usize = 0;
+    while k < n {
+        if breaks_other(edition, rasters, rows, hints, n, samples, k, timed) {
+            return k;
+        }
+        k += 1;
+    }
+    n
+}
+
+// The first of n rows that breaks any rule; n if none does. USE is asked apart, since it looks at each shape once and not at each event's.
 pub fn first_breaking(
     edition: Edition,
     rasters: Rasters,
@@ -130,15 +150,12 @@ pub fn first_breaking(
     requires { ⌜ NoneAgain (now rows) n ⌝ }
     ensures { λ r. ⌜ r ≡ firstSuch (breaksAny edition rasters (now (rows .entry)) n (now (samples .entry))) 0 n ⌝ }
 {
-    let timed = blocks::has_triggers(rows, n);
-    let mut k: usize = 0;
-    while k < n {
-        if breaks_any(edition, rasters, rows, hints, n, samples, k, timed) {
-            return k;
-        }
-        k += 1;
+    let other = first_other(edition, rasters, rows, hints, n, samples);
+    let misfit = events::first_misfit(rows, hints, n, samples);
+    if other < misfit {
+        return other;
     }
-    n
+    misfit
 }
 
 // The first of n rows that breaks a rule; n if none does.
@@ -154,6 +171,9 @@ pub fn first_broken(
     requires { ⌜ NoneAgain (now rows) n ⌝ }
     ensures { λ r. ⌜ r ≡ firstBroken rule edition rasters (now (rows .entry)) n (now (samples .entry)) ⌝ }
 {
+    if rule.number() == 14 {
+        return events::first_misfit(rows, hints, n, samples);
+    }
     let mut k: usize = 0;
     while k < n {
         if is_broken(rule, edition, rasters, rows, hints, n, samples, k) {

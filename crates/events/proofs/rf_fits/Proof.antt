@@ -21,19 +21,26 @@ samples-of-requires-2 c κs = search needs
 shaped-fits-requires : tie.Need-shaped-fits-requires
 shaped-fits-requires c κs = search needs
 
+same-length : tie.Need-same-length
+same-length c = search needs
+
 returns : tie.Need-returns
-returns c = let t = c .before .before in
-    let s = t .before .before in
-    let b = t .before .number2 in
-    let a = s .before .number in
-    c .shaped-fits .ensures ∙ rf-counts _ _ _ _ _ _ (rd-at _ (a .ok) ∙ a .ensures) (s .samples-of .ensures) _ _ (rd-at _ (b .ok) ∙ b .ensures) (t .samples-of2 .ensures) (c .before .if1 .taken)
+returns c =
+    let f = c .before .before in
+    let t = f .before .before in
+    let p = t .before in
+    let b = p .before .number2 in
+    let o = p .before .before in
+    let a = o .before .number in
+    (f .shaped-fits .ensures .0 ∙ rf-counts _ _ _ _ _ _ (rd-at _ (a .ok) ∙ a .ensures) (o .samples-of .ensures) _ _ (rd-at _ (b .ok) ∙ b .ensures) (p .samples-of2 .ensures) (t .if1 .taken), f .shaped-fits .ensures .1)
 
 returns-2 : tie.Need-returns-2
-returns-2 c = let t = c .before in
-    let s = t .before .before in
-    let b = t .before .number2 in
-    let a = s .before .number in
-    rf-other _ _ _ _ _ _ (rd-at _ (a .ok) ∙ a .ensures) (s .samples-of .ensures) _ _ (rd-at _ (b .ok) ∙ b .ensures) (t .samples-of2 .ensures) (c .if1 .left)
+returns-2 c =
+    let p = c .before in
+    let b = p .before .number2 in
+    let o = p .before .before in
+    let a = o .before .number in
+    (rf-other _ _ _ _ _ _ (rd-at _ (a .ok) ∙ a .ensures) (o .samples-of .ensures) _ _ (rd-at _ (b .ok) ∙ b .ensures) (p .samples-of2 .ensures) (c .if1 .left), o .before .before .before .before .pre .1)
 
 pub rf-fits-spec : {M : Type 1} → statement M
 rf-fits-spec =
@@ -44,5 +51,6 @@ rf-fits-spec =
     number-requires-2
     samples-of-requires-2
     shaped-fits-requires
+    same-length
     returns
     returns-2)

@@ -1,0 +1,2 @@
+-- The laws of a set of small numbers.
+pub mod Bits

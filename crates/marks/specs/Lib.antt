@@ -1,0 +1,2 @@
+-- What must be believed of a set of small numbers.
+pub mod Marks
