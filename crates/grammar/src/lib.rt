@@ -333,7 +333,26 @@ fn cut_step(st: State, n: usize, text: &[u8], at: usize) -> Read
     Read { did, next }
 }
 
-// Line n of a file, which starts at a place, where the file stands. Most lines are rows, which are read as such at once.
+// Line n of a file, which starts at a place, where the file stands. A stored value is read at once.
+fn read_stored(st: State, n: usize, text: &[u8], at: usize) -> Read
+    ensures { λ r. ⌜ r ≡ readAt st n (now (text .entry)) at ⌝ }
+{
+    let place = st.place;
+    if let Place::Values = place {
+        let held = shape::item_at(text, at);
+        let item = held.item;
+        if let Item::Value(_) = item {
+            let did = places::went(st);
+            return Read {
+                did,
+                next: held.next,
+            };
+        }
+    }
+    cut_step(st, n, text, at)
+}
+
+// Line n of a file, which starts at a place, where the file stands. Most lines are rows or stored values, which are read as such at once.
 pub fn read_line(st: State, n: usize, text: &[u8], at: usize) -> Read
     ensures { λ r. ⌜ r ≡ readAt st n (now (text .entry)) at ⌝ }
 {
@@ -352,5 +371,5 @@ pub fn read_line(st: State, n: usize, text: &[u8], at: usize) -> Read
             }
         }
     }
-    cut_step(st, n, text, at)
+    read_stored(st, n, text, at)
 }

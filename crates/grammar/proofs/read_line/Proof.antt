@@ -1,4 +1,4 @@
--- `grammar::read_line` meets its contract: a row at once where the file stands among rows, else the line cut off. Assumes nothing.
+-- `grammar::read_line` meets its contract: a row at once where the file stands among rows, else as other lines are read. Assumes nothing.
 use Rattle.grammar.proofs.ReadLines.{read-row}
 use borrow.Author.Needs.{needs}
 use Rattle.grammar.proofs.read_line.Statement.{statement}
@@ -19,8 +19,8 @@ gave-requires c κs = search needs
 returns : tie.Need-returns
 returns c = read-row _ _ _ _ _ _ (c .before .before .before .before .before .before .before .before .place .given .1) (c .before .before .before .before .before .lines .given .1) _ (c .before .before .before .line-row .ensures) (c .before .before .if1 .taken) _ (c .gave .ensures)
 
-cut-step-requires : tie.Need-cut-step-requires
-cut-step-requires c κs = search needs
+read-stored-requires : tie.Need-read-stored-requires
+read-stored-requires c κs = search needs
 
 returns-2 : tie.Need-returns-2
 returns-2 c = search needs
@@ -34,5 +34,5 @@ read-line-spec =
     line-row-requires
     gave-requires
     returns
-    cut-step-requires
+    read-stored-requires
     returns-2)
