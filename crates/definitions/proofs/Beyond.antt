@@ -39,9 +39,9 @@ none-beyond : (key : List ℕ) (st : State) → Left 2 st → (n at : ℕ) (ws :
 unfolding filePlaceFrom
 none-beyond key st left n at [] = refl
 none-beyond key st left n at (w ∷ ws) =
-    let r = silent-line 2 (omega arith) st left n (bareOf w) in
+    let r = silent-line 2 (omega arith) st (left .away) n (bareOf w) in
     let s : Stepped = stepOf st n (bareOf w) in
-    rw (none-beyond key (s .next) (r .left) (suc n) (at + length w) ws) (no-place key s at (bareOf w) (r .other))
+    rw (none-beyond key (s .next) (r .left (left .met)) (suc n) (at + length w) ws) (no-place key s at (bareOf w) (r .other))
 
 pub place-left : {file key : List ℕ} {st : State} {at n : ℕ} → PlaceWalk file key st at n → leftOf st 2 ≡ true → noPart ≡ filePlace file key
 place-left {file} {key} {st} {at} {n} k e = sym (none-beyond key st (left-is st 2 e) n at (wholeLinesOf (drop at file))) ∙ k .same

@@ -12,6 +12,8 @@ use Rattle.places.specs.declared.State.{State}
 use Rattle.passing.specs.Left.{leftOf}
 use Rattle.duplicates.specs.declared.Sort.{Sort}
 use Rattle.duplicates.specs.declared.Sort.the-variants.{Key, Name}
+use Rattle.duplicates.specs.declared.Ahead.{Ahead}
+use Rattle.duplicates.specs.declared.Ahead.the-variants.{Here, Names, Nowhere}
 use Rattle.duplicates.specs.declared.Once.{Once}
 use Rattle.duplicates.specs.declared.Once.the-variants.{Nothing, Word as OnceWord}
 use Rattle.duplicates.specs.Words.{Word, wordsOf, wordOf, sortNumber, isSame, nextLine}
@@ -30,9 +32,9 @@ sectionWith Name = 8
 abbrev pub isLeft : State → Sort → Bool
 isLeft st sort = leftOf st (sectionWith sort)
 
--- were both?
-abbrev pub allLeft : State → Bool
-allLeft st = isLeft st Key && isLeft st Name
+-- where the next word may stand, from where a walk stands at a place: names stand behind another place, which is 0 if the file has none
+unfoldable pub wordsAhead : State → ℕ → ℕ → Ahead
+wordsAhead st at names = cond (isLeft st Key) (cond (ltb at names) Names (cond (eqb names 0) Nowhere (cond (isLeft st Name) Nowhere Here))) Here
 
 -- ---- Things that lines give, each on a line of its own, and when two are the same: thing j, on this line, is the same as thing i before it
 pub record MetAgain {A : Type 0} (line : A → ℕ) (d : A) (same : A → A → Bool) (xs : List A) (l : ℕ) : Type 0 where

@@ -3,13 +3,15 @@ ghost use mathlib.Core.Path.{_≡_};
 ghost use Prim.Native.Nat.{_+_, _≤_};
 ghost use mathlib.Core.Bool.{true};
 ghost use lib.Dec.{ltb};
-ghost use lib.ListN.{drop};
+ghost use lib.ListN.{length, drop};
 ghost use Rattle.text.specs.Lines.{linesOf};
+ghost use Rattle.file.specs.Marks.{metWalk};
 ghost use Rattle.passing.specs.Sound.{soundOf};
 ghost use Rattle.sets.specs.Sets.{keptOf, placesAfter, unlessNew};
 ghost use Rattle.duplicates.specs.Words.{rowNames, onceOf, wordOf, sortNumber, wordAt, wordsFrom, wordsOf, nextLine, earlier, againLine, duplicateLine};
-ghost use Rattle.duplicates.specs.Inside.{namesWord, sectionWith, isLeft, allLeft, AskedAgain, inPart, askFirst, keepFirst, wordLine, noWord, sameWord, numberOf, wordNumber, anyWord, stoodBefore};
+ghost use Rattle.duplicates.specs.Inside.{namesWord, sectionWith, isLeft, wordsAhead, AskedAgain, inPart, askFirst, keepFirst, wordLine, noWord, sameWord, numberOf, wordNumber, anyWord, stoodBefore};
 ghost use Rattle.duplicates.specs.Again.{FirstLine};
+use file::Walk;
 use places::Found;
 use places::State;
 use places::Stepped;
@@ -25,6 +27,13 @@ pub enum Sort {
 pub enum Once {
     Nothing,
     Word(Sort),
+}
+
+// Where the next word may stand: here, or only where EXTENSIONS begins, or nowhere.
+enum Ahead {
+    Here,
+    Names,
+    Nowhere,
 }
 
 // What a row of this kind names.
@@ -102,20 +111,29 @@ fn is_left(st: State, sort: Sort) -> bool
 {
     let own = section_with(sort);
     let place = st.place;
-    if passing::word_section(place) == own {
+    if places::section_in(place) == own {
         return false;
     }
     st.seen[own]
 }
 
-// Were both sections of words met and left? Then no line names a word any more.
-fn all_left(st: State) -> bool
-    ensures { λ r. ⌜ r ≡ allLeft st ⌝ }
+// Where the next word may stand, from where a walk stands at a place; names stand behind another place, which is 0 if the file has none.
+fn words_ahead(st: State, at: usize, names: usize) -> Ahead
+    ensures { λ r. ⌜ r ≡ wordsAhead st at names ⌝ }
 {
-    if is_left(st, Sort::Key) {
-        return is_left(st, Sort::Name);
+    if !is_left(st, Sort::Key) {
+        return Ahead::Here;
     }
-    false
+    if at < names {
+        return Ahead::Names;
+    }
+    if names == 0 {
+        return Ahead::Nowhere;
+    }
+    if is_left(st, Sort::Name) {
+        return Ahead::Nowhere;
+    }
+    Ahead::Here
 }
 
 // The first line from a place on that names the word; 0 if none does. Nothing is read behind the section of such words.
@@ -214,45 +232,57 @@ fn names_again(
     }
 }
 
-// The first line at which a word that is asked for in a part is met again; 0 if there is none.
-fn first_kept(set: &mut [u64], file: &[u8], parts: u64, part: u64) -> usize
+// The first line at which a word that is asked for in a part is met again; 0 if there is none. Behind DEFINITIONS it goes on where EXTENSIONS begins.
+fn first_kept(set: &mut [u64], file: &[u8], names: Walk, parts: u64, part: u64) -> usize
     requires { ⌜ soundOf (now file) ≡ true ⌝ }
+    requires { ⌜ names ≡ metWalk 8 (now file) ⌝ }
     ensures { λ r. ⌜ FirstLine (AskedAgain wordLine noWord sameWord (inPart wordNumber anyWord parts part) (wordsOf (now (file .entry)))) r ⌝ }
 {
     let mut st = places::start();
     let mut at: usize = 0;
     let mut n: usize = 1;
     while at < file.len() {
-        let line = text::next_line(file, at);
-        let stop = line.stop;
-        let behind = line.next;
-        if passing::passes(st, &file[at..stop]) {
-            at = behind;
-            n += 1;
-        } else {
-            if all_left(st) {
+        match words_ahead(st, at, names.at) {
+            Ahead::Here => {
+                let line = text::next_line(file, at);
+                let stop = line.stop;
+                let behind = line.next;
+                if passing::passes(st, &file[at..stop]) {
+                    at = behind;
+                    n += 1;
+                } else {
+                    let did = grammar::step(st, n, &file[at..stop]);
+                    if names_again(set, file, &file[at..stop], n, did, parts, part) {
+                        return n;
+                    }
+                    let next = did.next;
+                    st = next;
+                    at = behind;
+                    n += 1;
+                }
+            }
+            Ahead::Names => {
+                let there = names.state;
+                st = there;
+                at = names.at;
+                n = names.lines + 1;
+            }
+            Ahead::Nowhere => {
                 return 0;
             }
-            let did = grammar::step(st, n, &file[at..stop]);
-            if names_again(set, file, &file[at..stop], n, did, parts, part) {
-                return n;
-            }
-            let next = did.next;
-            st = next;
-            at = behind;
-            n += 1;
         }
     }
     0
 }
 
 // The same, with a set of its own.
-fn first_in(file: &[u8], parts: u64, part: u64) -> usize
+fn first_in(file: &[u8], names: Walk, parts: u64, part: u64) -> usize
     requires { ⌜ soundOf (now file) ≡ true ⌝ }
+    requires { ⌜ names ≡ metWalk 8 (now file) ⌝ }
     ensures { λ r. ⌜ FirstLine (AskedAgain wordLine noWord sameWord (inPart wordNumber anyWord parts part) (wordsOf (now (file .entry)))) r ⌝ }
 {
     let mut set = [0u64; 32749];
-    first_kept(&mut set, file, parts, part)
+    first_kept(&mut set, file, names, parts, part)
 }
 
 // How many words a line names that gave this: one or none.
@@ -265,11 +295,14 @@ fn word_count(did: Stepped) -> usize
     }
 }
 
-// How many words a file has up to the end of the section in which those of this sort stand, for the choice of parts.
-fn count_words(file: &[u8], sort: Sort) -> usize {
-    let mut st = places::start();
-    let mut at: usize = 0;
-    let mut n: usize = 1;
+// How many words a file has from where a walk stands to the end of the section in which those of this sort stand, for the choice of parts.
+fn count_words(file: &[u8], from: Walk, sort: Sort) -> usize
+    requires { ⌜ from .at ≤ length (now file) ⌝ }
+    requires { ⌜ from .lines ≤ from .at ⌝ }
+{
+    let mut st = from.state;
+    let mut at = from.at;
+    let mut n = from.lines + 1;
     let mut count: usize = 0;
     while at < file.len() {
         if is_left(st, sort) {
@@ -338,19 +371,54 @@ pub fn earlier(a: usize, b: usize) -> usize
 }
 
 // The first line at which a key or a name is met again, by parts; 0 if there is none.
-fn first_of_parts(file: &[u8], parts: u64) -> usize
+fn first_of_parts(file: &[u8], names: Walk, parts: u64) -> usize
     requires { ⌜ 1 ≤ parts ⌝ }
     requires { ⌜ soundOf (now file) ≡ true ⌝ }
+    requires { ⌜ names ≡ metWalk 8 (now file) ⌝ }
     ensures { λ r. ⌜ r ≡ againLine (wordsOf (now (file .entry))) ⌝ }
 {
     let mut first: usize = 0;
     let mut part: u64 = 0;
     while part < parts {
-        let again = first_in(file, parts, part);
+        let again = first_in(file, names, parts, part);
         first = earlier(first, again);
         part += 1;
     }
     first
+}
+
+// Where EXTENSIONS begins, sought from the front; at the front if a file has none.
+fn seek_names(file: &[u8]) -> Walk
+    requires { ⌜ soundOf (now file) ≡ true ⌝ }
+    ensures { λ r. ⌜ r ≡ metWalk 8 (now (file .entry)) ⌝ }
+{
+    let mut st = places::start();
+    let mut at: usize = 0;
+    let mut n: usize = 1;
+    while at < file.len() {
+        let line = text::next_line(file, at);
+        let stop = line.stop;
+        let behind = line.next;
+        if passing::passes(st, &file[at..stop]) {
+            at = behind;
+            n += 1;
+        } else {
+            let did = grammar::step(st, n, &file[at..stop]);
+            let next = did.next;
+            let place = next.place;
+            if places::section_in(place) == 8 {
+                return Walk {
+                    at: behind,
+                    lines: n,
+                    state: next,
+                };
+            }
+            st = next;
+            at = behind;
+            n += 1;
+        }
+    }
+    file::walk_start()
 }
 
 // The first line at which a key or a name is met again; 0 if there is none.
@@ -358,18 +426,21 @@ pub fn word_again(file: &[u8]) -> usize
     requires { ⌜ soundOf (now file) ≡ true ⌝ }
     ensures { λ r. ⌜ r ≡ againLine (wordsOf (now (file .entry))) ⌝ }
 {
-    let keys = count_words(file, Sort::Key);
-    first_of_parts(file, parts_for(keys, count_words(file, Sort::Name)))
+    let names = seek_names(file);
+    let keys = count_words(file, file::walk_start(), Sort::Key);
+    let parts = parts_for(keys, count_words(file, names, Sort::Name));
+    first_of_parts(file, names, parts)
 }
 
 // The first line at which a key, a name, or the ID or type of one of n rows is met again in its class; 0 if there is none.
-pub fn first_duplicate(file: &[u8], rows: &[i64], n: usize) -> usize
+pub fn first_duplicate(file: &[u8], names: Walk, rows: &[i64], n: usize) -> usize
     requires { ⌜ soundOf (now file) ≡ true ⌝ }
+    requires { ⌜ names ≡ metWalk 8 (now file) ⌝ }
     ensures { λ r. ⌜ r ≡ duplicateLine (now (file .entry)) (now (rows .entry)) n ⌝ }
 {
     let k = again::first_again(rows, n);
-    let keys = count_words(file, Sort::Key);
-    let word = first_of_parts(file, parts_for(keys, count_names(rows, n)));
+    let keys = count_words(file, file::walk_start(), Sort::Key);
+    let word = first_of_parts(file, names, parts_for(keys, count_names(rows, n)));
     if k < n {
         return earlier(file::row_line(file, k), word);
     }

@@ -2,3 +2,4 @@
 pub mod Walking
 pub mod Laying
 pub mod Reading
+pub mod Marking

@@ -1,9 +1,10 @@
-// A whole file, line by line: its rows with their lines, or the first fault.
+// A whole file, line by line: its rows with their lines, or the first fault; and where the sections begin that are sought again.
 ghost use mathlib.Core.Path.{_≡_};
 ghost use mathlib.Core.List.{[]};
 ghost use Rattle.file.specs.Whole.{judged, ended, isFault, rowCount};
 ghost use Rattle.file.specs.Rows.{rowAt, rowsOf, lineOf, laidRow, answerOf, Scanning};
-ghost use Rattle.file.specs.Inside.{Laid};
+ghost use Rattle.file.specs.Marks.{walkStart, Marking};
+ghost use Rattle.file.specs.Inside.{Laid, isMet};
 use places::Fault;
 use places::Found;
 use places::State;
@@ -20,6 +21,42 @@ pub enum Scanned {
         defined: bool,
     },
     Fault(Fault, usize),
+}
+
+// Where a walk over the lines of a file stands: the place, how many lines were passed, and the state there.
+pub struct Walk {
+    pub at: usize,
+    pub lines: usize,
+    pub state: State,
+}
+
+// What reading all lines answers, and where the walk stands that first met EXTENSIONS, and SHAPES; at the front of the file if it never did.
+pub struct Marked {
+    pub scanned: Scanned,
+    pub names: Walk,
+    pub shapes: Walk,
+}
+
+// A walk at the front of a file.
+pub fn walk_start() -> Walk
+    ensures { λ r. ⌜ r ≡ walkStart ⌝ }
+{
+    Walk {
+        at: 0,
+        lines: 0,
+        state: places::start(),
+    }
+}
+
+// Does a file stand in a section for the first time? The place behind the line that led there is not noted yet: it is 0.
+fn is_met(noted: usize, st: State, section: usize) -> bool
+    ensures { λ r. ⌜ r ≡ isMet section noted st ⌝ }
+{
+    if noted != 0 {
+        return false;
+    }
+    let place = st.place;
+    places::section_in(place) == section
 }
 
 // Lays a row over the table, where there is room for it.
@@ -102,10 +139,13 @@ fn lay_found(rows: &mut [i64], k: usize, did: Stepped) -> usize
     count
 }
 
-// Reads all lines of a file and lays its rows over the table, as many as there is room for; it counts on where there is none.
-pub fn scan(file: &[u8], rows: &mut [i64]) -> Scanned
-    ensures { λ r. ⌜ Scanning (now (file .entry)) r (now (rows .entry)) (now (rows .exit)) ⌝ }
+// Reads all lines of a file and lays its rows over the table, as many as there is room for; it counts on where there is none. Notes where EXTENSIONS
+// and SHAPES begin.
+pub fn scan_marked(file: &[u8], rows: &mut [i64]) -> Marked
+    ensures { λ r. ⌜ Marking (now (file .entry)) r (now (rows .entry)) (now (rows .exit)) ⌝ }
 {
+    let mut names = walk_start();
+    let mut shapes = walk_start();
     let mut st = places::start();
     let mut at: usize = 0;
     let mut n: usize = 1;
@@ -116,16 +156,49 @@ pub fn scan(file: &[u8], rows: &mut [i64]) -> Scanned
         let did = grammar::step_cut(st, n, &file[at..stop], line.clean);
         let found = did.found;
         if is_fault(found) {
-            return answer(found, n, st, used);
+            let scanned = answer(found, n, st, used);
+            return Marked {
+                scanned,
+                names,
+                shapes,
+            };
         }
         used += lay_found(rows, used, did);
-        n += 1;
         at = line.next;
         let next = did.next;
         st = next;
+        if is_met(names.at, st, 8) {
+            names = Walk {
+                at,
+                lines: n,
+                state: st,
+            };
+        }
+        if is_met(shapes.at, st, 9) {
+            shapes = Walk {
+                at,
+                lines: n,
+                state: st,
+            };
+        }
+        n += 1;
     }
     let found = places::ending(st);
-    answer(found, 0, st, used)
+    let scanned = answer(found, 0, st, used);
+    Marked {
+        scanned,
+        names,
+        shapes,
+    }
+}
+
+// The same, without what is noted.
+pub fn scan(file: &[u8], rows: &mut [i64]) -> Scanned
+    ensures { λ r. ⌜ Scanning (now (file .entry)) r (now (rows .entry)) (now (rows .exit)) ⌝ }
+{
+    let marked = scan_marked(file, rows);
+    let scanned = marked.scanned;
+    scanned
 }
 
 // The line of row k of a file, from 0; 0 if there is none.

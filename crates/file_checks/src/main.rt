@@ -4,9 +4,11 @@
 ghost use mathlib.Core.Path.{_≡_};
 ghost use Prim.Native.Nat.{_+_, _-_, _≤_, min};
 ghost use mathlib.Core.Bool.{true};
+ghost use Rattle.file.specs.Marks.{metWalk};
 ghost use Rattle.passing.specs.Sound.{soundOf};
 ghost use Rattle.tables.specs.Tables.{NoneAgain};
 use file::Scanned;
+use file::Walk;
 use libc::STDIN_FILENO;
 use libc::STDOUT_FILENO;
 use numeral::Natural;
@@ -181,13 +183,21 @@ fn has_bad_site(edition: Edition, site: &[u8]) -> bool {
 }
 
 // SITE and DUPLICATE.
-fn check_texts(edition: Edition, file: &[u8], site: &[u8], table: &[i64], rows: usize) -> Verdict
+fn check_texts(
+    edition: Edition,
+    file: &[u8],
+    site: &[u8],
+    names: Walk,
+    table: &[i64],
+    rows: usize,
+) -> Verdict
     requires { ⌜ soundOf (now file) ≡ true ⌝ }
+    requires { ⌜ names ≡ metWalk 8 (now file) ⌝ }
 {
     if has_bad_site(edition, site) {
         return Verdict { number: 8, line: 0 };
     }
-    let line = duplicates::first_duplicate(file, table, rows);
+    let line = duplicates::first_duplicate(file, names, table, rows);
     if line != 0 {
         return Verdict { number: 9, line };
     }
@@ -197,15 +207,17 @@ fn check_texts(edition: Edition, file: &[u8], site: &[u8], table: &[i64], rows: 
 // SHAPE, with the samples that the shapes give.
 fn check_shapes(
     file: &[u8],
+    shapes: Walk,
     edition: Edition,
     table: &[i64],
     rows: usize,
     samples: &mut [i64],
 ) -> Verdict
     requires { ⌜ soundOf (now file) ≡ true ⌝ }
+    requires { ⌜ shapes ≡ metWalk 9 (now file) ⌝ }
     requires { ⌜ NoneAgain (now table) rows ⌝ }
 {
-    let k = sampling::expand_shapes(file, edition, table, rows, samples);
+    let k = sampling::expand_shapes(file, shapes, edition, table, rows, samples);
     if k < rows {
         let line = file::row_line(file, k);
         return Verdict { number: 11, line };
@@ -264,12 +276,14 @@ fn check_rules(
 fn judge_rows(
     edition: Edition,
     file: &[u8],
+    shapes: Walk,
     rasters: Rasters,
     table: &mut [i64],
     rows: usize,
     count: usize,
 )
     requires { ⌜ soundOf (now file) ≡ true ⌝ }
+    requires { ⌜ shapes ≡ metWalk 9 (now file) ⌝ }
 {
     let again = again::first_again(table, rows);
     if again < rows {
@@ -277,9 +291,9 @@ fn judge_rows(
         return;
     }
     let mut samples = [0i64; 2000];
-    let shapes = check_shapes(file, edition, table, rows, &mut samples);
-    if shapes.number != 0 {
-        show_refusal(shapes.number, shapes.line);
+    let expanded = check_shapes(file, shapes, edition, table, rows, &mut samples);
+    if expanded.number != 0 {
+        show_refusal(expanded.number, expanded.line);
         return;
     }
     let events = check_rules(file, edition, rasters, table, rows, &samples);
@@ -297,13 +311,17 @@ fn judge_texts<'a>(
     edition: Edition,
     file: &'a [u8],
     site: &'a [u8],
+    names: Walk,
+    shapes: Walk,
     table: &mut [i64],
     rows: usize,
     count: usize,
 )
     requires { ⌜ soundOf (now file) ≡ true ⌝ }
+    requires { ⌜ names ≡ metWalk 8 (now file) ⌝ }
+    requires { ⌜ shapes ≡ metWalk 9 (now file) ⌝ }
 {
-    let texts = check_texts(edition, file, site, table, rows);
+    let texts = check_texts(edition, file, site, names, table, rows);
     if texts.number != 0 {
         show_refusal(texts.number, texts.line);
         return;
@@ -313,13 +331,14 @@ fn judge_texts<'a>(
         show_refusal(10, 0);
         return;
     }
-    judge_rows(edition, file, rasters, table, rows, count);
+    judge_rows(edition, file, shapes, rasters, table, rows, count);
 }
 
 // Applies all rules to a file, and writes what comes of it.
 fn judge_file<'a>(file: &'a [u8], site: &'a [u8]) {
     let mut table = [0i64; 4800];
-    let scanned = file::scan(file, &mut table);
+    let marked = file::scan_marked(file, &mut table);
+    let scanned = marked.scanned;
     match scanned {
         Scanned::File {
             edition,
@@ -335,7 +354,18 @@ fn judge_file<'a>(file: &'a [u8], site: &'a [u8]) {
                 show_refusal(7, 0);
                 return;
             }
-            judge_texts(edition, file, site, &mut table, rows, samples as usize);
+            let names = marked.names;
+            let shapes = marked.shapes;
+            judge_texts(
+                edition,
+                file,
+                site,
+                names,
+                shapes,
+                &mut table,
+                rows,
+                samples as usize,
+            );
         }
         Scanned::Fault(fault, line) => show_refusal(fault.number(), line),
     }

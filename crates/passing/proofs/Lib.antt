@@ -2,3 +2,4 @@
 pub mod Over
 pub mod Sound
 pub mod Left
+pub mod Reaching

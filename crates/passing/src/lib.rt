@@ -2,7 +2,7 @@
 ghost use mathlib.Core.Path.{_≡_};
 ghost use Rattle.text.specs.Marks.{markOf};
 ghost use Rattle.passing.specs.Passing.{passesIn, passesAt, passesOf};
-ghost use Rattle.passing.specs.Left.{linesSection, wordSection, leftOf};
+ghost use Rattle.passing.specs.Left.{leftOf};
 use places::Lines;
 use places::Place;
 use places::State;
@@ -50,39 +50,12 @@ pub fn passes(st: State, line: &[u8]) -> bool
     }
 }
 
-// The section of keys or names that has these lines; 0 if none has.
-fn lines_section(lines: Lines) -> usize
-    ensures { λ r. ⌜ r ≡ linesSection lines ⌝ }
-{
-    match lines {
-        Lines::None => 0,
-        Lines::Definitions => 2,
-        Lines::Rows(_) => 0,
-        Lines::Shapes => 0,
-    }
-}
-
-// The section of keys or names that has this place; 0 if none has.
-pub fn word_section(place: Place) -> usize
-    ensures { λ r. ⌜ r ≡ wordSection place ⌝ }
-{
-    match place {
-        Place::Start => 0,
-        Place::Version(_) => 0,
-        Place::Section(lines) => lines_section(lines),
-        Place::Extensions(_) => 8,
-        Place::Head(_, _) => 0,
-        Place::Values => 0,
-        Place::Signature => 0,
-    }
-}
-
 // Was DEFINITIONS met and left? A section is met once, so no further line is a definition.
 pub fn left_definitions(st: State) -> bool
     ensures { λ r. ⌜ r ≡ leftOf st 2 ⌝ }
 {
     let place = st.place;
-    if word_section(place) == 2 {
+    if places::section_in(place) == 2 {
         return false;
     }
     st.seen[2]

@@ -4,6 +4,8 @@ use mathlib.Core.Bool.{false}
 use lib.ListN.{replicate}
 use Rattle.shape.specs.declared.Edition.the-variants.{V13}
 use Rattle.columns.specs.Rows.{blank}
+use Rattle.places.specs.declared.Lines.{Lines}
+use Rattle.places.specs.declared.Lines.the-variants.{None, Definitions, Rows, Shapes}
 use Rattle.places.specs.declared.Place.{Place}
 use Rattle.places.specs.declared.Place.the-variants.{Start, Version, Section, Extensions, Head, Values, Signature}
 use Rattle.places.specs.declared.Fault.{Fault}
@@ -19,6 +21,23 @@ faultNumber LineFault = 2
 faultNumber VersionFault = 3
 faultNumber SectionFault = 4
 faultNumber FieldFault = 5
+
+-- ---- The sections that are sought again: keys stand in section 2, DEFINITIONS, names of extensions in section 8, EXTENSIONS, and shapes in section 9,
+-- SHAPES. Which of them a place is in; 0 if in none
+abbrev pub linesSection : Lines → ℕ
+linesSection None = 0
+linesSection Definitions = 2
+linesSection (Rows form) = 0
+linesSection Shapes = 9
+
+abbrev pub sectionIn : Place → ℕ
+sectionIn Start = 0
+sectionIn (Version due) = 0
+sectionIn (Section lines) = linesSection lines
+sectionIn (Extensions listed) = 8
+sectionIn (Head id n) = 9
+sectionIn Values = 9
+sectionIn Signature = 0
 
 -- ---- What a line may give: nothing, or a fault
 abbrev pub wentOf : State → Stepped

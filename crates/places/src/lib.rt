@@ -1,6 +1,6 @@
 // Where a file stands: the place, its edition and what it has met; what a line may give there; where a file begins and how it may end.
 ghost use mathlib.Core.Path.{_≡_};
-ghost use Rattle.places.specs.Places.{faultNumber, wentOf, refusedOf, movedOf, fresh, endingOf};
+ghost use Rattle.places.specs.Places.{faultNumber, linesSection, sectionIn, wentOf, refusedOf, movedOf, fresh, endingOf};
 use columns::Form;
 use shape::Edition;
 
@@ -74,6 +74,33 @@ pub struct State {
     pub edition: Edition,
     pub seen: [bool; 12],
     pub samples: u64,
+}
+
+// The section of these lines, of those that are sought again; 0 if they are of none.
+fn lines_section(lines: Lines) -> usize
+    ensures { λ r. ⌜ r ≡ linesSection lines ⌝ }
+{
+    match lines {
+        Lines::None => 0,
+        Lines::Definitions => 2,
+        Lines::Rows(_) => 0,
+        Lines::Shapes => 9,
+    }
+}
+
+// Which of the sections that are sought again a place is in: DEFINITIONS, EXTENSIONS or SHAPES, by its number; 0 if in none.
+pub fn section_in(place: Place) -> usize
+    ensures { λ r. ⌜ r ≡ sectionIn place ⌝ }
+{
+    match place {
+        Place::Start => 0,
+        Place::Version(_) => 0,
+        Place::Section(lines) => lines_section(lines),
+        Place::Extensions(_) => 8,
+        Place::Head(_, _) => 9,
+        Place::Values => 9,
+        Place::Signature => 0,
+    }
 }
 
 // What a line gave, a row's line and numbers, and where the file stands behind it.

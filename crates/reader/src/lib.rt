@@ -6,6 +6,7 @@ ghost use lib.ListN.{length};
 ghost use Rattle.tables.specs.Tables.{NoneAgain};
 ghost use mathlib.Core.Bool.{true};
 ghost use Rattle.file.specs.Rows.{rowsOf, scannedOf};
+ghost use Rattle.file.specs.Marks.{metWalk};
 ghost use Rattle.passing.specs.Sound.{soundOf};
 ghost use Rattle.answers.specs.declared.Answer.the-variants.{Accepted};
 ghost use Rattle.reader.specs.Reading.{rulesAsked, Reading};
@@ -13,6 +14,7 @@ ghost use Rattle.reader.specs.Inside.{RowsJudged, TextsJudged, FileJudge
 use answers::Answer;
 use answers::Refusal;
 use file::Scanned;
+use file::Walk;
 use shape::Edition;
 use unit::Rasters;
 
@@ -54,6 +56,7 @@ fn judge_rows(
     edition: Edition,
     rasters: Rasters,
     file: &[u8],
+    shapes: Walk,
     rows: &mut [i64],
     n: usize,
     samples: &mut [i64],
@@ -61,9 +64,10 @@ fn judge_rows(
 ) -> Answer
     requires { ⌜ NoneAgain (now rows) n ⌝ }
     requires { ⌜ soundOf (now file) ≡ true ⌝ }
+    requires { ⌜ shapes ≡ metWalk 9 (now file) ⌝ }
     ensures { λ r. ⌜ RowsJudged edition rasters (now (file .entry)) n count (now (rows .entry)) (now (samples .entry)) r (now (rows .exit)) (now (samples .exit)) ⌝ }
 {
-    let failing = sampling::expand_shapes(file, edition, rows, n, samples);
+    let failing = sampling::expand_shapes(file, shapes, edition, rows, n, samples);
     if failing < n {
         return Answer::Refused(Refusal::Shape, file::row_line(file, failing));
     }
@@ -81,6 +85,8 @@ fn judge_texts<'a>(
     edition: Edition,
     file: &'a [u8],
     site: &'a [u8],
+    names: Walk,
+    shapes: Walk,
     rows: &mut [i64],
     n: usize,
     samples: &mut [i64],
@@ -88,12 +94,14 @@ fn judge_texts<'a>(
 ) -> Answer
     requires { ⌜ n ≤ length (rowsOf (now file)) ⌝ }
     requires { ⌜ soundOf (now file) ≡ true ⌝ }
+    requires { ⌜ names ≡ metWalk 8 (now file) ⌝ }
+    requires { ⌜ shapes ≡ metWalk 9 (now file) ⌝ }
     ensures { λ r. ⌜ TextsJudged edition (now (file .entry)) (now (site .entry)) n count (now (rows .entry)) (now (samples .entry)) r (now (rows .exit)) (now (samples .exit)) ⌝ }
 {
     if questions::has_bad_site(edition, site) {
         return Answer::Refused(Refusal::Site, 0);
     }
-    let again = duplicates::first_duplicate(file, rows, n);
+    let again = duplicates::first_duplicate(file, names, rows, n);
     if again != 0 {
         return Answer::Refused(Refusal::Duplicate, again);
     }
@@ -101,14 +109,16 @@ fn judge_texts<'a>(
     if rasters::is_lacking(edition, rasters) {
         return Answer::Refused(Refusal::Raster, 0);
     }
-    judge_rows(edition, rasters, file, rows, n, samples, count)
+    judge_rows(edition, rasters, file, shapes, rows, n, samples, count)
 }
 
 // All that is asked of a file that is not too long.
 fn judge_file<'a>(file: &'a [u8], site: &'a [u8], rows: &mut [i64], samples: &mut [i64]) -> Answer
     ensures { λ r. ⌜ FileJudged (now (file .entry)) (now (site .entry)) (now (rows .entry)) (now (samples .entry)) r (now (rows .exit)) (now (samples .exit)) ⌝ }
 {
-    match file::scan(file, rows) {
+    let marked = file::scan_marked(file, rows);
+    let scanned = marked.scanned;
+    match scanned {
         Scanned::File {
             edition,
             rows: n,
@@ -121,7 +131,19 @@ fn judge_file<'a>(file: &'a [u8], site: &'a [u8], rows: &mut [i64], samples: &mu
             if questions::lacks_room(n, count, rows.len(), samples.len()) {
                 return Answer::Refused(Refusal::Room, 0);
             }
-            judge_texts(edition, file, site, rows, n, samples, count as usize)
+            let names = marked.names;
+            let shapes = marked.shapes;
+            judge_texts(
+                edition,
+                file,
+                site,
+                names,
+                shapes,
+                rows,
+                n,
+                samples,
+                count as usize,
+            )
         }
         Scanned::Fault(fault, line) => Answer::Refused(questions::fault_refusal(fault), line),
     }

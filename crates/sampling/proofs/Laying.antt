@@ -14,11 +14,12 @@ use Rattle.signed.proofs.Sign.{sameZ-true}
 use Rattle.expanding.specs.Alone.{expandedOf, tableOf, Expansion}
 use Rattle.shape.specs.declared.Edition.{Edition}
 use Rattle.shape.specs.declared.Expanded.{Expanded}
-use Rattle.stored.specs.Inside.{nextOf, walkStart, Walked}
-use Rattle.stored.specs.declared.Walk.{Walk}
+use Rattle.stored.specs.Inside.{nextOf, Walked}
+use Rattle.file.specs.Marks.{metWalk}
+use Rattle.file.specs.declared.Walk.{Walk}
 use Rattle.stored.specs.declared.Sought.{Sought}
 use Rattle.passing.specs.Sound.{soundOf}
-use Rattle.stored.proofs.Walking.{walked-start, walked-less, next-holds, next-walked}
+use Rattle.stored.proofs.Walking.{walked-met, walked-less, next-holds, next-walked}
 use Rattle.grammar.proofs.Parts.{Holds}
 use Rattle.columns.specs.Columns.{shapeKind}
 use Rattle.tables.specs.Tables.{firstSuch, numberAt, classOf, classAt, isRowOf, firstRow, NoneAgain}
@@ -129,11 +130,11 @@ pub record Expanding (edition : Edition) (file : List ℕ) (rows : List ℤ) (n 
   pub first : firstSuch (failsAt edition file rows (length l₀)) k (n - k) ≡ firstFailing edition file rows (length l₀) n
   pub rest : laidFrom edition file rows (length l₀) k (n - k) l ≡ laidFrom edition file rows (length l₀) 0 n l₀
 
-pub expanding-start : (edition : Edition) (file : List ℕ) (rows : List ℤ) (n : ℕ) → soundOf file ≡ true → (l : List ℤ) (walk : Walk) → walk ≡ walkStart → Expanding edition file rows n l l walk 0
+pub expanding-start : (edition : Edition) (file : List ℕ) (rows : List ℤ) (n : ℕ) → soundOf file ≡ true → (l : List ℤ) (walk : Walk) → walk ≡ metWalk 9 file → Expanding edition file rows n l l walk 0
 unfolding firstFailing
 expanding-start edition file rows n sound l walk w =
     let e : n - 0 ≡ n = omega arith in
-    record { within = omega arith; walked = rw w (walked-start file (NewTo rows 0) sound); long = refl; first = such-start (failsAt edition file rows (length l)) n; rest = rw e }
+    record { within = omega arith; walked = rw w (walked-met file (NewTo rows 0) sound); long = refl; first = such-start (failsAt edition file rows (length l)) n; rest = rw e }
 
 module _ (edition : Edition) (file : List ℕ) (rows : List ℤ) (n : ℕ) (l₀ l : List ℤ) (walk : Walk) (k : ℕ) (x : Expanding edition file rows n l₀ l walk k) where
   pub expanding-end : n ≤ k → Sampled edition file rows n l₀ n l

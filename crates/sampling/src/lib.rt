@@ -3,14 +3,15 @@ ghost use mathlib.Core.Path.{_≡_};
 ghost use Prim.Native.Nat.{min};
 ghost use lib.IntN.{natAbs};
 ghost use mathlib.Core.Bool.{true};
+ghost use Rattle.file.specs.Marks.{metWalk};
 ghost use Rattle.passing.specs.Sound.{soundOf};
 ghost use Rattle.stored.specs.Inside.{Walked};
 ghost use Rattle.tables.specs.Tables.{numberAt, NoneAgain};
 ghost use Rattle.sampling.specs.Sampling.{failed, Sampled};
 ghost use Rattle.sampling.specs.Inside.{ShapeSampled, NewTo, IsNew, RowSampled};
+use file::Walk;
 use shape::Edition;
 use shape::Expanded;
-use stored::Walk;
 
 // Has a row failed, and where the walk to its stored lines stands.
 struct Turned {
@@ -95,19 +96,22 @@ fn expand_row(
     }
 }
 
-// Expands the shapes of n rows, each at its place among the lent samples, up to the first that fails; answers its row, n if none fails.
+// Expands the shapes of n rows, each at its place among the lent samples, up to the first that fails; answers its row, n if none fails. Their stored
+// lines are sought from where SHAPES begins.
 pub fn expand_shapes(
     file: &[u8],
+    shapes: Walk,
     edition: Edition,
     rows: &[i64],
     n: usize,
     samples: &mut [i64],
 ) -> usize
     requires { ⌜ soundOf (now file) ≡ true ⌝ }
+    requires { ⌜ shapes ≡ metWalk 9 (now file) ⌝ }
     requires { ⌜ NoneAgain (now rows) n ⌝ }
     ensures { λ r. ⌜ Sampled edition (now (file .entry)) (now (rows .entry)) n (now (samples .entry)) r (now (samples .exit)) ⌝ }
 {
-    let mut walk = stored::walk_start();
+    let mut walk = shapes;
     let mut k: usize = 0;
     while k < n {
         let turned = expand_row(file, walk, edition, rows, k, samples);

@@ -26,7 +26,7 @@ use Rattle.passing.proofs.Sound.{sound-here, sound-next, sound-over, sound-behi
 use Rattle.stored.specs.Shapes.{isShape}
 use Rattle.stored.specs.Places.{valuesPart}
 use Rattle.stored.specs.Inside.{idOf, isWanted, passedOf, behindFrom, soughtFrom, soughtOf}
-use Rattle.stored.specs.declared.Walk.{Walk}
+use Rattle.file.specs.declared.Walk.{Walk}
 use Rattle.stored.proofs.Counted.{form-other}
 use Rattle.stored.proofs.Stored.{behind-at}
 

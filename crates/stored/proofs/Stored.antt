@@ -25,7 +25,7 @@ use Rattle.file.specs.Whole.{isFault, rowCount}
 use Rattle.stored.specs.Shapes.{endsShape, valuesText, isShape, storedFrom, storedOf}
 use Rattle.stored.specs.Places.{valuesPart, storedPlaceFrom, storedPlace}
 use Rattle.stored.specs.Inside.{behindFrom}
-use Rattle.stored.specs.declared.Walk.{Walk}
+use Rattle.file.specs.declared.Walk.{Walk}
 use Rattle.file.proofs.Laying.{row-zero, row-some}
 
 -- ---- the row of a shape

@@ -21,17 +21,23 @@ use Rattle.grammar.specs.Parts.{noPart}
 use Rattle.grammar.specs.Steps.{stepOf}
 use Rattle.grammar.proofs.Parts.{Holds, whole-ends, by-lines}
 use Rattle.places.specs.Places.{fresh}
+use Rattle.places.specs.declared.Found.{Found}
+use Rattle.places.specs.declared.Found.the-variants.{Nothing, Row, Definition, Fault as FoundFault}
 use Rattle.places.specs.declared.Place.the-variants.{Values}
 use Rattle.places.specs.declared.State.{State}
 use Rattle.places.specs.declared.Stepped.{Stepped}
 use Rattle.file.specs.Whole.{isFault, isRow}
+use Rattle.file.specs.Marks.{walkStart, metWalk}
 use Rattle.passing.specs.Sound.{soundFrom, soundOf}
 use Rattle.passing.specs.Passing.{passesOf}
+use Rattle.passing.specs.Left.{foundSection, givenSection}
+use Rattle.passing.proofs.Left.{silent-line}
+use Rattle.passing.proofs.Reaching.{Reached, begins, ends, standing, readBy, by-met}
 use Rattle.passing.proofs.Sound.{sound-here, sound-next, sound-over}
 use Rattle.stored.specs.Shapes.{endsShape, isShape, storedOf}
 use Rattle.stored.specs.Places.{valuesPart, storedPlaceFrom, storedPlace}
-use Rattle.stored.specs.Inside.{walkStart, idOf, isWanted, passedOf, behindFrom, soughtFrom, soughtOf, nextOf, Walked}
-use Rattle.stored.specs.declared.Walk.{Walk}
+use Rattle.stored.specs.Inside.{idOf, isWanted, passedOf, behindFrom, soughtFrom, soughtOf, nextOf, Walked}
+use Rattle.file.specs.declared.Walk.{Walk}
 use Rattle.stored.specs.declared.Sought.{Sought}
 use Rattle.stored.proofs.Counted.{shape-values}
 use Rattle.stored.proofs.Stored.{stored-holds}
@@ -108,10 +114,6 @@ unfolding soughtOf walkStart storedPlace
 front-part file id walk e x p = rw (p, e) (sought-part id walkStart (wholeLinesOf file))
 
 -- ---- a walk that came from the front, line by line
-pub front-is : (st : State) → st ≡ fresh → record { at = 0; lines = 0; state = st } ≡ walkStart
-unfolding walkStart
-front-is st e = rw e
-
 pub walked-start : (file : List ℕ) (new : ℤ → Type 0) → soundOf file ≡ true → Walked file new walkStart
 unfolding walkStart storedPlace soundOf
 walked-start file new s = record { lines = omega arith; sound = s; same = λ id e. refl }
@@ -123,9 +125,6 @@ walked-less f x = record { lines = x .lines; sound = x .sound; same = λ id h. x
 -- all that were new but this
 abbrev pub But : (ℤ → Type 0) → ℤ → ℤ → Type 0
 But new own id = new id × (sameZ own id ≡ false)
-
-abbrev standing : ℕ → ℕ → State → Walk
-standing at lines st = record { at = at; lines = lines; state = st }
 
 -- among the values of a shape a line that does not end it is passed over
 values-pass : (m : Mark) → endsShape m ≡ false → passesOf Values m ≡ true
@@ -174,6 +173,42 @@ module _ (file : List ℕ) (new : ℤ → Type 0) where
       go : (walk : Walk) → Walked file new walk → (b : Bool) {ends : Bool} → ends ≡ b → {on : Walk} → (ends ≡ false → Walked file new on) → Walked file new (cond b walk on)
       go walk x true e y = x
       go walk x false e y = y e
+
+-- ---- a shape's row belongs to SHAPES, so none stands before that section
+shape-given : (id : ℤ) (s : Stepped) → isShape id s ≡ true → givenSection s ≡ 9
+unfolding isShape givenSection
+shape-given id s e =
+    let b = and-both (isRow (s .found)) (sameZ (getD (s .cells) 0 (pos 0)) (pos shapeKind) && sameZ (idOf s) id) e in
+    by-found (s .found) (getD (s .cells) 0 (pos 0)) (b .0) (and-both (sameZ (getD (s .cells) 0 (pos 0)) (pos shapeKind)) (sameZ (idOf s) id) (b .1) .0)
+  where
+    by-found : (f : Found) (kind : ℤ) → isRow f ≡ true → sameZ kind (pos shapeKind) ≡ true → foundSection f kind ≡ 9
+    by-found Nothing kind e k = unfold isRow in absurd (true≢false (sym e))
+    by-found Row kind e k = unfold foundSection in unfold sameZ in rw (sameZ-true kind (pos shapeKind) k)
+    by-found Definition kind e k = unfold isRow in absurd (true≢false (sym e))
+    by-found (FoundFault fault) kind e k = unfold isRow in absurd (true≢false (sym e))
+
+shape-elsewhere : (id : ℤ) (s : Stepped) → (givenSection s ≡ 9 → ⊥) → isShape id s ≡ false
+shape-elsewhere id s o = go (isShape id s) refl
+  where
+    go : (b : Bool) → isShape id s ≡ b → b ≡ false
+    go true e = absurd (o (shape-given id s e))
+    go false e = refl
+
+-- so a walk that stands where SHAPES begins has passed none
+pub walked-met : (file : List ℕ) (new : ℤ → Type 0) → soundOf file ≡ true → Walked file new (metWalk 9 file)
+unfolding metWalk walkStart soundOf
+walked-met file new e =
+    go
+    (by-met 9 file (Walked file new)
+    (λ walk away sound r l w x. unfold passedOf in
+    let s : Stepped = readBy file walk r in
+    walked-turn file new walk x r l w s refl (sound-here l (walk .state) (suc (walk .lines)) sound) new
+    (λ id n. (n, shape-elsewhere id s (silent-line 9 (omega arith) (walk .state) away (suc (walk .lines)) (take (r .stop - walk .at) (drop (walk .at) file)) .other))))
+    0 0 fresh (λ (z : 0 ≡ 9). omega arith) e (walked-start file new e))
+  where
+    go : {m : Walk} → Reached file (Walked file new) m → Walked file new m
+    go (begins h x) = x
+    go (ends walk h x z) = rw z (walked-start file new e)
 
 -- and on behind the next shape
 module _ (file : List ℕ) (new : ℤ → Type 0) where

@@ -10,19 +10,15 @@ use Rattle.text.specs.Lines.{linesOf, wholeLinesOf, bareOf}
 use Rattle.text.specs.Marks.{markOf}
 use Rattle.grammar.specs.Parts.{noPart}
 use Rattle.grammar.specs.Steps.{stepOf}
-use Rattle.places.specs.Places.{fresh}
 use Rattle.places.specs.declared.Stepped.{Stepped}
 use Rattle.file.specs.Whole.{isFault}
 use Rattle.passing.specs.Sound.{soundFrom}
 use Rattle.stored.specs.Shapes.{endsShape, isShape}
 use Rattle.stored.specs.Places.{valuesPart, storedPlaceFrom, storedPlace}
-use Rattle.stored.specs.declared.Walk.{Walk}
+use Rattle.file.specs.declared.Walk.{Walk}
 use Rattle.stored.specs.declared.Sought.{Sought}
 
--- ---- A walk over the lines: where it begins, and where it stands behind a line, which ends at a place
-unfoldable pub walkStart : Walk
-walkStart = record { at = 0; lines = 0; state = fresh }
-
+-- ---- A walk over the lines: where it stands behind a line, which ends at a place
 unfoldable pub passedOf : Walk → Stepped → ℕ → Walk
 passedOf walk s behind = record { at = behind; lines = suc (walk .lines); state = s .next }
 

@@ -8,18 +8,12 @@ ghost use Rattle.text.specs.Marks.{markOf};
 ghost use Rattle.passing.specs.Sound.{soundFrom, soundOf};
 ghost use Rattle.stored.specs.Shapes.{endsShape, isShape, storedOf};
 ghost use Rattle.stored.specs.Places.{storedPlace};
-ghost use Rattle.stored.specs.Inside.{walkStart, behindFrom, isWanted, soughtOf, nextOf};
+ghost use Rattle.stored.specs.Inside.{behindFrom, isWanted, soughtOf, nextOf};
 use fields::Part;
+use file::Walk;
 use places::State;
 use places::Stepped;
 use text::Mark;
-
-// Where a walk over the lines of a file stands: the place, how many lines were passed, and the state there.
-pub struct Walk {
-    pub at: usize,
-    pub lines: usize,
-    pub state: State,
-}
 
 // Where stored lines stand, the ID of their shape, and the walk from which the next shape is sought.
 pub struct Sought {
@@ -87,17 +81,6 @@ fn is_wanted(did: Stepped, any: bool, id: i64) -> bool
     is_shape(did, id)
 }
 
-// A walk at the front of a file.
-pub fn walk_start() -> Walk
-    ensures { λ r. ⌜ r ≡ walkStart ⌝ }
-{
-    Walk {
-        at: 0,
-        lines: 0,
-        state: places::start(),
-    }
-}
-
 // Walks on behind the next shape, of any ID or with this one; its stored lines are empty, and at the start, if there is none. Lines that leave the
 // state as it is are passed over.
 fn seek(file: &[u8], from: Walk, any: bool, id: i64) -> Sought
@@ -152,7 +135,7 @@ pub fn stored_place(file: &[u8], id: i64) -> Part
     requires { ⌜ soundOf (now file) ≡ true ⌝ }
     ensures { λ r. ⌜ r ≡ storedPlace (now (file .entry)) id ⌝ }
 {
-    let sought = seek(file, walk_start(), false, id);
+    let sought = seek(file, file::walk_start(), false, id);
     sought.part
 }
 

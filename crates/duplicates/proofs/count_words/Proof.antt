@@ -1,5 +1,5 @@
 -- `duplicates::count_words` meets its contract. The loop counts no more words than lines. Assumes nothing.
-use Rattle.file.proofs.Walking.{Within, within-start, within-turn}
+use Rattle.file.proofs.Walking.{Within, within-turn}
 use Rattle.text.proofs.Cut.{LineAt, line-at}
 use lib.ListN.{length}
 use denote.Ref.{now}
@@ -16,14 +16,14 @@ abbrev μ-loop : tie.MeasureT-loop
 μ-loop file sort st₀ at₀ n₀ count₀ st at n count = length file - at
 
 -- the line that starts here
-here : (c : tie.After-next-line Inv-loop μ-loop) → LineAt (now (c .before .before .before .before .before .before .before .args .file)) (c .before .before .before .before .loop .at) (c .next-line .result)
+here : (c : tie.After-next-line Inv-loop μ-loop) → LineAt (now (c .before .before .before .before .before .before .before .before .args .file)) (c .before .before .before .before .loop .at) (c .next-line .result)
 here c = line-at _ _ _ (c .next-line .ensures) (omega arith)
 
-start-requires : tie.Need-start-requires Inv-loop μ-loop
-start-requires c κs = search needs
+add-n : tie.Need-add-n Inv-loop μ-loop
+add-n c = let s = c .before .before .before in omega (arith, s .pre .0, s .pre .1, s .good .0 .0)
 
 loop-holds : tie.Need-loop-holds Inv-loop μ-loop
-loop-holds c = (within-start _, omega arith)
+loop-holds c = let s = c .before .before .before in (record { inside = s .pre .0; number = omega (arith, s .pre .1) }, omega arith)
 
 is-left-requires : tie.Need-is-left-requires Inv-loop μ-loop
 is-left-requires c κs = search needs
@@ -46,8 +46,8 @@ part-passes-end c = here c .within
 passes-requires : tie.Need-passes-requires Inv-loop μ-loop
 passes-requires c κs = search needs
 
-add-n : tie.Need-add-n Inv-loop μ-loop
-add-n c = let l = c .before .before .before in omega (arith, l .before .before .before .before .loop .inv .0 .number, here l .further, here l .inside, l .before .before .before .before .before .before .before .good .0 .0)
+add-n-2 : tie.Need-add-n-2 Inv-loop μ-loop
+add-n-2 c = let l = c .before .before .before in omega (arith, l .before .before .before .before .loop .inv .0 .number, here l .further, here l .inside, l .before .before .before .before .before .before .before .before .good .0 .0)
 
 loop-less : tie.Need-loop-less Inv-loop μ-loop
 loop-less c = let l = c .before .before .before in omega (arith, here l .further, here l .inside)
@@ -71,10 +71,10 @@ word-count-requires : tie.Need-word-count-requires Inv-loop μ-loop
 word-count-requires c κs = search needs
 
 add-count : tie.Need-add-count Inv-loop μ-loop
-add-count c = let l = c .before .before .before .before .before .before in let i = l .before .before .before .before .loop .inv in omega (arith, i .0 .number, i .1, here l .further, here l .inside, c .word-count .ensures, l .before .before .before .before .before .before .before .good .0 .0)
+add-count c = let l = c .before .before .before .before .before .before in let i = l .before .before .before .before .loop .inv in omega (arith, i .0 .number, i .1, here l .further, here l .inside, c .word-count .ensures, l .before .before .before .before .before .before .before .before .good .0 .0)
 
-add-n-2 : tie.Need-add-n-2 Inv-loop μ-loop
-add-n-2 c = let l = c .before .before .before .before .before .before .before in let i = l .before .before .before .before .loop .inv in omega (arith, i .0 .number, here l .further, here l .inside, l .before .before .before .before .before .before .before .good .0 .0)
+add-n-3 : tie.Need-add-n-3 Inv-loop μ-loop
+add-n-3 c = let l = c .before .before .before .before .before .before .before in let i = l .before .before .before .before .loop .inv in omega (arith, i .0 .number, here l .further, here l .inside, l .before .before .before .before .before .before .before .before .good .0 .0)
 
 loop-less-2 : tie.Need-loop-less-2 Inv-loop μ-loop
 loop-less-2 c = let l = c .before .before .before .before .before .before .before in omega (arith, here l .further, here l .inside)
@@ -91,7 +91,7 @@ count-words-spec =
     (tie.spec
     Inv-loop
     μ-loop
-    start-requires
+    add-n
     loop-holds
     is-left-requires
     returns
@@ -100,7 +100,7 @@ count-words-spec =
     part-passes-start
     part-passes-end
     passes-requires
-    add-n
+    add-n-2
     loop-less
     loop-again
     sub-step
@@ -109,7 +109,7 @@ count-words-spec =
     step-requires
     word-count-requires
     add-count
-    add-n-2
+    add-n-3
     loop-less-2
     loop-again-2
     returns-2)

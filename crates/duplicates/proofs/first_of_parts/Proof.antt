@@ -10,10 +10,10 @@ use Rattle.duplicates.proofs.first_of_parts.Statement.{statement}
 use Rattle.duplicates.proofs.first_of_parts.Tie as tie
 
 abbrev Inv-loop : tie.InvT-loop
-Inv-loop file parts first₀ part₀ first part = PartsWalk wordLine noWord sameWord wordNumber anyWord (wordsOf file) parts part first
+Inv-loop file names parts first₀ part₀ first part = PartsWalk wordLine noWord sameWord wordNumber anyWord (wordsOf file) parts part first
 
 abbrev μ-loop : tie.MeasureT-loop
-μ-loop file parts first₀ part₀ first part = parts - part
+μ-loop file names parts first₀ part₀ first part = parts - part
 
 loop-holds : tie.Need-loop-holds Inv-loop μ-loop
 loop-holds c = parts-start _ _ _ _ _ _ _

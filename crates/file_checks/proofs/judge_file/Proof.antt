@@ -5,11 +5,11 @@ use borrow.Author.Needs.{needs}
 use Rattle.file_checks.proofs.judge_file.Statement.{statement}
 use Rattle.file_checks.proofs.judge_file.Tie as tie
 
-slice-aggregate-scan : tie.Need-slice-aggregate-scan
-slice-aggregate-scan c = search needs
+slice-aggregate-scan-marked : tie.Need-slice-aggregate-scan-marked
+slice-aggregate-scan-marked c = search needs
 
-scan-requires : tie.Need-scan-requires
-scan-requires c κs = search needs
+scan-marked-requires : tie.Need-scan-marked-requires
+scan-marked-requires c κs = search needs
 
 enum-known-scanned : tie.Need-enum-known-scanned
 enum-known-scanned c = search needs
@@ -36,9 +36,9 @@ slice-aggregate-judge-texts : tie.Need-slice-aggregate-judge-texts
 slice-aggregate-judge-texts c = search needs
 
 judge-texts-requires : tie.Need-judge-texts-requires
-judge-texts-requires c κs = let e = c .before .before .before .before .before .before in
+judge-texts-requires c κs = let e = c .before .before .before .before .before .before .before .before in
     let s = e .before .before .before in
-    sound-scanned _ (sym (e .scanned .given .1) ∙ s .scan .ensures .answer)
+    (sound-scanned _ (sym (e .scanned .given .1) ∙ s .scan-marked .ensures .scanning .answer), (s .scan-marked .ensures .names, s .scan-marked .ensures .shapes))
 
 enum-known-scanned-2 : tie.Need-enum-known-scanned-2
 enum-known-scanned-2 c = search needs
@@ -59,8 +59,8 @@ pub judge-file-spec : {M : Type 1} → statement M
 judge-file-spec =
     tie.close
     (tie.spec
-    slice-aggregate-scan
-    scan-requires
+    slice-aggregate-scan-marked
+    scan-marked-requires
     enum-known-scanned
     is-missing-requires
     show-refusal-requires

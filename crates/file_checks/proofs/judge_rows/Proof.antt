@@ -23,7 +23,7 @@ slice-aggregate-check-shapes : tie.Need-slice-aggregate-check-shapes
 slice-aggregate-check-shapes c = search needs
 
 check-shapes-requires : tie.Need-check-shapes-requires
-check-shapes-requires c κs = let e = c .before .before in (search needs, first-none _ _ (e .before .first-again .ensures) (e .if1 .left))
+check-shapes-requires c κs = let e = c .before .before in (search needs, (search needs, first-none _ _ (e .before .first-again .ensures) (e .if1 .left)))
 
 show-refusal-requires-2 : tie.Need-show-refusal-requires-2
 show-refusal-requires-2 c κs = search needs

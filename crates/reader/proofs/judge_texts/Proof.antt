@@ -43,7 +43,7 @@ judge-rows-requires c κs = let k = c .before .before .before in
     let d = e .before in
     let b = d .before .before in
     let pre = b .before .before .before .before .pre in
-    (none-again-of _ _ _ (pre .0) (d .first-duplicate .ensures) (e .if2 .left), pre .1)
+    (none-again-of _ _ _ (pre .0) (d .first-duplicate .ensures) (e .if2 .left), (pre .1 .0, pre .1 .1 .1))
 
 same-length-3 : tie.Need-same-length-3
 same-length-3 c = search needs

@@ -13,15 +13,12 @@ Inv-loop file edition rows n samples₀ walk₀ k₀ samples walk k = Expanding 
 abbrev μ-loop : tie.MeasureT-loop
 μ-loop file edition rows n samples₀ walk₀ k₀ samples walk k = n - k
 
-walk-start-requires : tie.Need-walk-start-requires Inv-loop μ-loop
-walk-start-requires c κs = search needs
-
 loop-holds : tie.Need-loop-holds Inv-loop μ-loop
-loop-holds c = expanding-start _ _ _ _ (c .before .before .pre .0) _ _ (c .walk-start .ensures)
+loop-holds c = expanding-start _ _ _ _ (c .before .pre .0) _ _ (c .before .pre .1 .0)
 
 expand-row-requires : tie.Need-expand-row-requires Inv-loop μ-loop
-expand-row-requires c κs = let s = c .before .before .before .before .before in
-    (s .pre .0, (c .before .before .loop .inv .walked, is-new _ _ (s .pre .1) _ (c .before .loop-test .taken)))
+expand-row-requires c κs = let s = c .before .before .before .before in
+    (s .pre .0, (c .before .before .loop .inv .walked, is-new _ _ (s .pre .1 .1) _ (c .before .loop-test .taken)))
 
 same-length : tie.Need-same-length Inv-loop μ-loop
 same-length c = let x = c .before .before in x .expand-row .kept .1 .1 .1 .1 .1 .0 ∙ x .before .before .before .loop .inv .long
@@ -54,7 +51,6 @@ expand-shapes-spec =
     (tie.spec
     Inv-loop
     μ-loop
-    walk-start-requires
     loop-holds
     expand-row-requires
     same-length

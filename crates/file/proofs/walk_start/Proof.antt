@@ -1,8 +1,8 @@
--- `stored::walk_start` meets its contract. Assumes nothing.
-use Rattle.stored.proofs.Walking.{front-is}
+-- `file::walk_start` meets its contract. Assumes nothing.
+use Rattle.file.proofs.Marking.{front-is}
 use borrow.Author.Needs.{needs}
-use Rattle.stored.proofs.walk_start.Statement.{statement}
-use Rattle.stored.proofs.walk_start.Tie as tie
+use Rattle.file.proofs.walk_start.Statement.{statement}
+use Rattle.file.proofs.walk_start.Tie as tie
 
 start-requires : tie.Need-start-requires
 start-requires c κs = search needs
