@@ -151,9 +151,8 @@ pub fn scan_marked(file: &[u8], rows: &mut [i64]) -> Marked
     let mut n: usize = 1;
     let mut used: usize = 0;
     while at < file.len() {
-        let line = text::cut_line(file, at);
-        let stop = line.stop;
-        let did = grammar::step_cut(st, n, &file[at..stop], line.clean);
+        let read = grammar::read_line(st, n, file, at);
+        let did = read.did;
         let found = did.found;
         if is_fault(found) {
             let scanned = answer(found, n, st, used);
@@ -164,7 +163,7 @@ pub fn scan_marked(file: &[u8], rows: &mut [i64]) -> Marked
             };
         }
         used += lay_found(rows, used, did);
-        at = line.next;
+        at = read.next;
         let next = did.next;
         st = next;
         if is_met(names.at, st, 8) {
@@ -210,9 +209,8 @@ pub fn row_line(file: &[u8], k: usize) -> usize
     let mut n: usize = 1;
     let mut left = k;
     while at < file.len() {
-        let line = text::cut_line(file, at);
-        let stop = line.stop;
-        let did = grammar::step_cut(st, n, &file[at..stop], line.clean);
+        let read = grammar::read_line(st, n, file, at);
+        let did = read.did;
         let found = did.found;
         if is_fault(found) {
             return 0;
@@ -223,7 +221,7 @@ pub fn row_line(file: &[u8], k: usize) -> usize
         }
         left -= count;
         n += 1;
-        at = line.next;
+        at = read.next;
         let next = did.next;
         st = next;
     }

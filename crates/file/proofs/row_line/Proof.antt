@@ -5,7 +5,7 @@ use native.Mathlib.Omega.{arith}
 use denote.Ref.{now}
 use lib.ListN.{length}
 use Rattle.text.proofs.Cut.{LineAt}
-use Rattle.text.proofs.Clean.{lineOf, cut-at, cut-clean}
+use Rattle.grammar.proofs.ReadLines.{lineIn, read-at, read-did}
 use Rattle.file.proofs.Laying.{LineWalk, seek-start, seek-fault, seek-found, seek-turn, seek-end}
 use borrow.Author.Needs.{needs}
 use Rattle.file.proofs.row_line.Statement.{statement}
@@ -18,8 +18,8 @@ abbrev μ-loop : tie.MeasureT-loop
 μ-loop file k st₀ at₀ n₀ left₀ st at n left = length file - at
 
 -- the line that starts here
-here : (c : tie.After-cut-line Inv-loop μ-loop) → LineAt (now (c .before .before .before .before .before .args .file)) (c .before .before .loop .at) (lineOf (c .cut-line .result))
-here c = cut-at _ _ _ (c .cut-line .ensures) (omega arith)
+here : (c : tie.After-read-line Inv-loop μ-loop) → LineAt (now (c .before .before .before .before .before .args .file)) (c .before .before .loop .at) (lineIn (now (c .before .before .before .before .before .args .file)) (c .before .before .loop .at) (c .read-line .result))
+here c = read-at _ _ _ _ _ (c .read-line .ensures) (omega arith)
 
 start-requires : tie.Need-start-requires Inv-loop μ-loop
 start-requires c κs = search needs
@@ -27,51 +27,36 @@ start-requires c κs = search needs
 loop-holds : tie.Need-loop-holds Inv-loop μ-loop
 loop-holds c = seek-start _ _ _ (c .start .ensures)
 
-cut-line-requires : tie.Need-cut-line-requires Inv-loop μ-loop
-cut-line-requires c κs = search needs
-
-sub-step-cut : tie.Need-sub-step-cut Inv-loop μ-loop
-sub-step-cut c = here c .ordered
-
-part-step-cut-start : tie.Need-part-step-cut-start Inv-loop μ-loop
-part-step-cut-start c = here c .ordered
-
-part-step-cut-end : tie.Need-part-step-cut-end Inv-loop μ-loop
-part-step-cut-end c = here c .within
-
-step-cut-requires : tie.Need-step-cut-requires Inv-loop μ-loop
-step-cut-requires c κs = cut-clean _ _ _ (c .before .cut-line .ensures)
+read-line-requires : tie.Need-read-line-requires Inv-loop μ-loop
+read-line-requires c κs = search needs
 
 is-fault-requires : tie.Need-is-fault-requires Inv-loop μ-loop
 is-fault-requires c κs = search needs
 
 returns : tie.Need-returns Inv-loop μ-loop
-returns c = let s = c .before .before in
-    let l = s .before .before in
-    seek-fault _ _ _ _ _ _ (l .before .before .loop .inv) _ (here l) _ (s .step-cut .ensures) (sym (c .before .is-fault .ensures) ∙ c .if1 .taken)
+returns c = let l = c .before .before .before in
+    seek-fault _ _ _ _ _ _ (l .before .before .loop .inv) _ (here l) _ (read-did _ _ _ _ _ (l .read-line .ensures)) (sym (c .before .is-fault .ensures) ∙ c .if1 .taken)
 
 row-count-requires : tie.Need-row-count-requires Inv-loop μ-loop
 row-count-requires c κs = search needs
 
 returns-2 : tie.Need-returns-2 Inv-loop μ-loop
 returns-2 c = let e = c .before .before in
-    let s = e .before .before in
-    let l = s .before .before in
-    seek-found _ _ _ _ _ _ (l .before .before .loop .inv) _ (here l) _ (s .step-cut .ensures) (sym (e .before .is-fault .ensures) ∙ e .if1 .left) _ (c .before .row-count .ensures) (c .if2 .taken)
+    let l = e .before .before .before in
+    seek-found _ _ _ _ _ _ (l .before .before .loop .inv) _ (here l) _ (read-did _ _ _ _ _ (l .read-line .ensures)) (sym (e .before .is-fault .ensures) ∙ e .if1 .left) _ (c .before .row-count .ensures) (c .if2 .taken)
 
 add-n : tie.Need-add-n Inv-loop μ-loop
-add-n c = let l = c .before .before .before .before .before .before in
+add-n c = let l = c .before .before .before .before .before in
     let w = l .before .before .loop .inv .within in
     omega (arith, w .number, here l .further, here l .inside, l .before .before .before .before .before .good .0 .0)
 
 loop-less : tie.Need-loop-less Inv-loop μ-loop
-loop-less c = let l = c .before .before .before .before .before .before .before in omega (arith, here l .further, here l .inside)
+loop-less c = let l = c .before .before .before .before .before .before in omega (arith, here l .further, here l .inside)
 
 loop-again : tie.Need-loop-again Inv-loop μ-loop
 loop-again c = let e = c .before .before .before in
-    let s = e .before .before in
-    let l = s .before .before in
-    seek-turn _ _ _ _ _ _ (l .before .before .loop .inv) _ (here l) _ (s .step-cut .ensures) (sym (e .before .is-fault .ensures) ∙ e .if1 .left) _ (c .before .before .row-count .ensures) (c .before .if2 .left)
+    let l = e .before .before .before in
+    seek-turn _ _ _ _ _ _ (l .before .before .loop .inv) _ (here l) _ (read-did _ _ _ _ _ (l .read-line .ensures)) (sym (e .before .is-fault .ensures) ∙ e .if1 .left) _ (c .before .before .row-count .ensures) (c .before .if2 .left)
 
 returns-3 : tie.Need-returns-3 Inv-loop μ-loop
 returns-3 c = seek-end _ _ _ _ _ _ (c .before .loop .inv) (c .loop-test .left)
@@ -84,11 +69,7 @@ row-line-spec =
     μ-loop
     start-requires
     loop-holds
-    cut-line-requires
-    sub-step-cut
-    part-step-cut-start
-    part-step-cut-end
-    step-cut-requires
+    read-line-requires
     is-fault-requires
     returns
     row-count-requires

@@ -4,7 +4,7 @@ use mathlib.Core.Path.{sym, _∙_}
 use native.Mathlib.Omega.{arith}
 use denote.Ref.{now}
 use lib.ListN.{length}
-use Rattle.text.proofs.Clean.{lineOf, cut-line, cut-at, cut-clean}
+use Rattle.grammar.proofs.ReadLines.{lineIn, line-in, read-at, read-did}
 use Rattle.file.proofs.Reading.{scan-start, scan-fault, scan-turn, scan-end}
 use Rattle.file.proofs.Laying.{count-is, count-most}
 use mathlib.Core.List.{[]}
@@ -22,11 +22,11 @@ abbrev μ-loop : tie.MeasureT-loop
 μ-loop file rows₀ names₀ shapes₀ st₀ at₀ n₀ used₀ rows names shapes st at n used = length file - at
 
 -- the line that starts here
-here : (c : tie.After-cut-line Inv-loop μ-loop) → LineAt (now (c .before .before .before .before .before .before .before .args .file)) (c .before .before .loop .at) (lineOf (c .cut-line .result))
-here c = cut-at _ _ _ (c .cut-line .ensures) (omega arith)
+here : (c : tie.After-read-line Inv-loop μ-loop) → LineAt (now (c .before .before .before .before .before .before .before .args .file)) (c .before .before .loop .at) (lineIn (now (c .before .before .before .before .before .before .before .args .file)) (c .before .before .loop .at) (c .read-line .result))
+here c = read-at _ _ _ _ _ (c .read-line .ensures) (omega arith)
 
-whole : (c : tie.After-cut-line Inv-loop μ-loop) → WholeAt (now (c .before .before .before .before .before .before .before .args .file)) (c .before .before .loop .at) (lineOf (c .cut-line .result))
-whole c = whole-at _ _ _ (cut-line _ _ _ (c .cut-line .ensures)) (omega arith)
+whole : (c : tie.After-read-line Inv-loop μ-loop) → WholeAt (now (c .before .before .before .before .before .before .before .args .file)) (c .before .before .loop .at) (lineIn (now (c .before .before .before .before .before .before .before .args .file)) (c .before .before .loop .at) (c .read-line .result))
+whole c = whole-at _ _ _ (line-in _ _ _ _ _ (c .read-line .ensures)) (omega arith)
 
 walk-start-requires : tie.Need-walk-start-requires Inv-loop μ-loop
 walk-start-requires c κs = search needs
@@ -40,20 +40,8 @@ start-requires c κs = search needs
 loop-holds : tie.Need-loop-holds Inv-loop μ-loop
 loop-holds c = let w = c .before .before .walk-start .ensures in record { scan = scan-start _ _ _ (c .start .ensures); names-met = mark-start _ _ _ w _ (c .start .ensures); shapes-met = mark-start _ _ _ (c .before .walk-start2 .ensures) _ (c .start .ensures) }
 
-cut-line-requires : tie.Need-cut-line-requires Inv-loop μ-loop
-cut-line-requires c κs = search needs
-
-sub-step-cut : tie.Need-sub-step-cut Inv-loop μ-loop
-sub-step-cut c = here c .ordered
-
-part-step-cut-start : tie.Need-part-step-cut-start Inv-loop μ-loop
-part-step-cut-start c = here c .ordered
-
-part-step-cut-end : tie.Need-part-step-cut-end Inv-loop μ-loop
-part-step-cut-end c = here c .within
-
-step-cut-requires : tie.Need-step-cut-requires Inv-loop μ-loop
-step-cut-requires c κs = cut-clean _ _ _ (c .before .cut-line .ensures)
+read-line-requires : tie.Need-read-line-requires Inv-loop μ-loop
+read-line-requires c κs = search needs
 
 is-fault-requires : tie.Need-is-fault-requires Inv-loop μ-loop
 is-fault-requires c κs = search needs
@@ -62,17 +50,16 @@ answer-requires : tie.Need-answer-requires Inv-loop μ-loop
 answer-requires c κs = search needs
 
 same-length : tie.Need-same-length Inv-loop μ-loop
-same-length c = c .before .before .before .before .before .before .before .loop .inv .scan .long
+same-length c = c .before .before .before .before .before .before .loop .inv .scan .long
 
 returns : tie.Need-returns Inv-loop μ-loop
-returns c = let s = c .before .before .before in
-    let l = s .before .before in
+returns c = let l = c .before .before .before .before in
     let w = l .before .before .loop .inv in
     let f = sym (c .before .before .is-fault .ensures) ∙ c .before .if1 .taken in
     record {
-      scanning = scan-fault _ _ _ _ _ _ _ (w .scan) _ (here l) _ (s .step-cut .ensures) f _ (c .answer .ensures);
-      names = mark-fault (w .names-met) (here l) (whole l) _ (s .step-cut .ensures) f;
-      shapes = mark-fault (w .shapes-met) (here l) (whole l) _ (s .step-cut .ensures) f;
+      scanning = scan-fault _ _ _ _ _ _ _ (w .scan) _ (here l) _ (read-did _ _ _ _ _ (l .read-line .ensures)) f _ (c .answer .ensures);
+      names = mark-fault (w .names-met) (here l) (whole l) _ (read-did _ _ _ _ _ (l .read-line .ensures)) f;
+      shapes = mark-fault (w .shapes-met) (here l) (whole l) _ (read-did _ _ _ _ _ (l .read-line .ensures)) f;
     }
 
 lay-found-requires : tie.Need-lay-found-requires Inv-loop μ-loop
@@ -80,10 +67,9 @@ lay-found-requires c κs = search needs
 
 add-used : tie.Need-add-used Inv-loop μ-loop
 add-used c = let f = c .before in
-    let s = f .before .before .before .before in
-    let l = s .before .before in
+    let l = f .before .before .before .before .before in
     let m = f .lay-found .ensures .count ∙ count-is 0 [] _ in
-    omega (arith, l .before .before .loop .inv .scan .few, here l .further, here l .inside, l .before .before .before .before .before .before .before .good .0 .0, m, count-most (s .step-cut .result .found))
+    omega (arith, l .before .before .loop .inv .scan .few, here l .further, here l .inside, l .before .before .before .before .before .before .before .good .0 .0, m, count-most (l .read-line .result .did .found))
 
 is-met-requires : tie.Need-is-met-requires Inv-loop μ-loop
 is-met-requires c κs = search needs
@@ -92,27 +78,26 @@ is-met-requires-2 : tie.Need-is-met-requires-2 Inv-loop μ-loop
 is-met-requires-2 c κs = search needs
 
 -- the line of this turn
-abbrev cut-at-turn : tie.Joined3 Inv-loop μ-loop → tie.After-cut-line Inv-loop μ-loop
-cut-at-turn c = c .before .before .before .before .before .before .before .before .before .before .before .before
+abbrev read-at-turn : tie.Joined3 Inv-loop μ-loop → tie.After-read-line Inv-loop μ-loop
+read-at-turn c = c .before .before .before .before .before .before .before .before .before .before .before
 
 add-n : tie.Need-add-n Inv-loop μ-loop
-add-n c = let l = cut-at-turn c in
+add-n c = let l = read-at-turn c in
     omega (arith, l .before .before .loop .inv .scan .within .number, here l .further, here l .inside, l .before .before .before .before .before .before .before .good .0 .0)
 
 loop-less : tie.Need-loop-less Inv-loop μ-loop
-loop-less c = let l = cut-at-turn c in omega (arith, here l .further, here l .inside)
+loop-less c = let l = read-at-turn c in omega (arith, here l .further, here l .inside)
 
 loop-again : tie.Need-loop-again Inv-loop μ-loop
 loop-again c = let f = c .before .before .before .before .before .before in
     let e = f .before .before in
-    let s = e .before .before in
-    let l = s .before .before in
+    let l = e .before .before .before in
     let w = l .before .before .loop .inv in
     let good = sym (e .before .is-fault .ensures) ∙ e .if1 .left in
     record {
-      scan = scan-turn _ _ _ _ _ _ _ (w .scan) _ (here l) _ (s .step-cut .ensures) good _ _ (f .lay-found .ensures);
-      names-met = mark-turn (w .names-met) (here l) (whole l) _ (s .step-cut .ensures) good _ (c .before .before .before .is-met .ensures) _ (⊎-elim (λ x. inl (x .0 .taken, x .1)) (λ y. inr (y .0 .left, y .1)) (c .before .before .if2 .came));
-      shapes-met = mark-turn (w .shapes-met) (here l) (whole l) _ (s .step-cut .ensures) good _ (c .before .is-met2 .ensures) _ (⊎-elim (λ x. inl (x .0 .taken, x .1)) (λ y. inr (y .0 .left, y .1)) (c .if3 .came));
+      scan = scan-turn _ _ _ _ _ _ _ (w .scan) _ (here l) _ (read-did _ _ _ _ _ (l .read-line .ensures)) good _ _ (f .lay-found .ensures);
+      names-met = mark-turn (w .names-met) (here l) (whole l) _ (read-did _ _ _ _ _ (l .read-line .ensures)) good _ (c .before .before .before .is-met .ensures) _ (⊎-elim (λ x. inl (x .0 .taken, x .1)) (λ y. inr (y .0 .left, y .1)) (c .before .before .if2 .came));
+      shapes-met = mark-turn (w .shapes-met) (here l) (whole l) _ (read-did _ _ _ _ _ (l .read-line .ensures)) good _ (c .before .is-met2 .ensures) _ (⊎-elim (λ x. inl (x .0 .taken, x .1)) (λ y. inr (y .0 .left, y .1)) (c .if3 .came));
     }
 
 ending-requires : tie.Need-ending-requires Inv-loop μ-loop
@@ -143,11 +128,7 @@ scan-marked-spec =
     walk-start-requires-2
     start-requires
     loop-holds
-    cut-line-requires
-    sub-step-cut
-    part-step-cut-start
-    part-step-cut-end
-    step-cut-requires
+    read-line-requires
     is-fault-requires
     answer-requires
     same-length
