@@ -5,7 +5,7 @@
  * Each function answers for every input, allocates nothing, keeps nothing between calls, and reads
  * and writes only the slices that it is lent.
  *
- * Stack. Reading, restating and looking up take up to 1.4 MB of the caller's stack, whatever the
+ * Stack. Reading, restating and looking up take up to 1.6 MB of the caller's stack, whatever the
  * file: a thread that calls them needs as much.
  *
  * Slices. Each is a pointer and a length; a length counts elements, not bytes. A pointer must not

@@ -45,7 +45,7 @@ const fn missing(name: &'static str, make: fn(usize) -> Sequence) -> Case {
 }
 
 /// All cases.
-pub const CASES: [Case; 10] = [
+pub const CASES: [Case; 11] = [
     accepted("descending-ids", Edition::V14, orders::descending),
     accepted("shuffled-ids", Edition::V14, orders::shuffled),
     accepted("scattered-ids", Edition::V14, orders::scattered),
@@ -54,6 +54,7 @@ pub const CASES: [Case; 10] = [
     missing("blank-lines", lines::blank_lines),
     accepted("plain-shape", Edition::V14, shapes::plain_shape),
     accepted("run-length-shape", Edition::V13, shapes::run_length_shape),
+    accepted("shared-shapes", Edition::V14, shapes::shared_shapes),
     accepted("chains", Edition::V14, chains::chains),
     accepted("long-lines", Edition::V14, lines::long_lines),
 ];

@@ -1,4 +1,5 @@
-// Files of one shape with a million stored values, each of as many digits as the size asks for.
+// Files of one shape with a million stored values, each of as many digits as the size asks for; and
+// of many events that refer to two shapes of a million samples.
 
 use crate::hostile::lines::head;
 use crate::random::Random;
@@ -43,6 +44,23 @@ pub fn run_length_shape(size: usize) -> Sequence {
         }
     }
     Sequence { text, rows: 3, samples: 6 * turns }
+}
+
+/// Gradients of a 1.4 file that in turn refer to two shapes of a million samples, each of which is
+/// stored in three lines.
+pub fn shared_shapes(size: usize) -> Sequence {
+    let mut text = head();
+    text.push_str("[BLOCKS]\n1 1000000 0 1 0 0 0 0\n[GRADIENTS]\n");
+    let mut events = 0;
+    while text.len() < size {
+        events += 1;
+        writeln!(text, "{events} 1000 {} 0 0", 1 + events % 2).expect("a text");
+    }
+    text.push_str("[SHAPES]\n");
+    for id in [1, 2] {
+        write!(text, "shape_id {id}\nnum_samples {MOST}\n0\n0\n{}\n\n", MOST - 2).expect("a text");
+    }
+    Sequence { text, rows: events + 3, samples: 2 * MOST }
 }
 
 /// The digits behind the point of each stored value.
