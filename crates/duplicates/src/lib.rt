@@ -347,6 +347,14 @@ fn count_names(rows: &[i64], n: usize) -> usize {
     count
 }
 
+// The same, of a file in which EXTENSIONS begins at a place; 0 is none, and then no row is looked at.
+fn names_from(place: usize, rows: &[i64], n: usize) -> usize {
+    if place == 0 {
+        return 0;
+    }
+    count_names(rows, n)
+}
+
 // In how many parts so many keys and names are kept.
 fn parts_for(keys: usize, names: usize) -> u64
     ensures { λ r. ⌜ 1 ≤ r ⌝ }
@@ -440,7 +448,7 @@ pub fn first_duplicate(file: &[u8], names: Walk, rows: &[i64], n: usize) -> usiz
 {
     let k = again::first_again(rows, n);
     let keys = count_words(file, file::walk_start(), Sort::Key);
-    let word = first_of_parts(file, names, parts_for(keys, count_names(rows, n)));
+    let word = first_of_parts(file, names, parts_for(keys, names_from(names.at, rows, n)));
     if k < n {
         return earlier(file::row_line(file, k), word);
     }

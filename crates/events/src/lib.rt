@@ -241,8 +241,24 @@ pub fn misfits(rows: &[i64], hints: &[u16], n: usize, samples: &[i64], k: usize)
     is_unfit(rows, hints, n, samples, n, &mut marks, k)
 }
 
-// The first of n rows that is a shape; n if none is.
+// The first of the shapes that stand at the end of n rows; n if none does.
+fn last_shapes(rows: &[i64], n: usize) -> usize {
+    let mut k = n;
+    while 0 < k {
+        if !signed::same(tables::number(rows, k - 1, 0), 11) {
+            return k;
+        }
+        k -= 1;
+    }
+    k
+}
+
+// The first of n rows that is a shape; n if none is. Shapes stand last in most files.
 fn first_shape(rows: &[i64], n: usize) -> usize {
+    let last = last_shapes(rows, n);
+    if last < n {
+        return last;
+    }
     let mut k: usize = 0;
     while k < n {
         if signed::same(tables::number(rows, k, 0), 11) {

@@ -9,6 +9,9 @@ ghost use Rattle.finding.specs.Hints.{groupOf, roomOf, homeOf, freeFrom,
 fn group_of(n: usize) -> usize
     ensures { λ r. ⌜ r ≡ groupOf n ⌝ }
 {
+    if n < 65535 {
+        return 1;
+    }
     let most = n / 65535;
     if 1000000 < most {
         return 1000001;

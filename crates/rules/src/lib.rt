@@ -227,6 +227,16 @@ fn fill_row(
     }
 }
 
+// Can a chain take time, which the length of a 1.3 block asks?
+fn is_timed(edition: Edition, rows: &[i64], n: usize) -> bool
+    ensures { λ r. ⌜ Timed r (now (rows .entry)) n ⌝ }
+{
+    match edition {
+        Edition::V13 => blocks::has_triggers(rows, n),
+        Edition::V14 => true,
+    }
+}
+
 // Writes the length of each block among n rows into its row, as its tenth number.
 pub fn fill_lengths(
     edition: Edition,
@@ -239,7 +249,7 @@ pub fn fill_lengths(
     requires { ⌜ NoneAgain (now rows) n ⌝ }
     ensures { λ r. ⌜ now (rows .exit) ≡ filled edition rasters (now (rows .entry)) n (now (samples .entry)) (now (rows .entry)) 0 n ⌝ }
 {
-    let timed = blocks::has_triggers(rows, n);
+    let timed = is_timed(edition, rows, n);
     let mut k: usize = 0;
     while k < n {
         fill_row(edition, rasters, rows, hints, n, samples, k, timed);

@@ -15,8 +15,8 @@ walk-start-requires c κs = search needs
 count-words-requires : tie.Need-count-words-requires
 count-words-requires c κs = front-inside _ _ (c .walk-start .ensures)
 
-count-names-requires : tie.Need-count-names-requires
-count-names-requires c κs = search needs
+names-from-requires : tie.Need-names-from-requires
+names-from-requires c κs = search needs
 
 parts-for-requires : tie.Need-parts-for-requires
 parts-for-requires c κs = search needs
@@ -45,7 +45,7 @@ first-duplicate-spec =
     first-again-requires
     walk-start-requires
     count-words-requires
-    count-names-requires
+    names-from-requires
     parts-for-requires
     first-of-parts-requires
     row-line-requires

@@ -2,7 +2,6 @@
 use borrow.Author.Needs.{needs}
 use Prim.Native.Nat.{_-_}
 use native.Mathlib.Omega.{arith}
-use Rattle.blocks.proofs.Timeless.{timed-told}
 use Rattle.rules.proofs.Alike.{once-same, timed-same}
 use Rattle.rules.proofs.Filling.{Filling, fill-start, fill-turn, fill-end}
 use Rattle.rules.proofs.fill_lengths.Statement.{statement}
@@ -14,8 +13,8 @@ Inv-loop edition rasters rows₀ hints n samples timed k₀ rows k = Filling edi
 abbrev μ-loop : tie.MeasureT-loop
 μ-loop edition rasters rows₀ hints n samples timed k₀ rows k = n - k
 
-has-triggers-requires : tie.Need-has-triggers-requires Inv-loop μ-loop
-has-triggers-requires c κs = search needs
+is-timed-requires : tie.Need-is-timed-requires Inv-loop μ-loop
+is-timed-requires c κs = search needs
 
 loop-holds : tie.Need-loop-holds Inv-loop μ-loop
 loop-holds c = fill-start _ _ _ _ _
@@ -23,7 +22,7 @@ loop-holds c = fill-start _ _ _ _ _
 fill-row-requires : tie.Need-fill-row-requires Inv-loop μ-loop
 fill-row-requires c κs = let l = c .before .before in
     let t = l .before in
-    (once-same _ _ (l .loop .inv .alike) _ (t .before .before .before .pre), timed-same _ _ (l .loop .inv .alike) _ _ (timed-told _ _ (t .has-triggers .ensures)))
+    (once-same _ _ (l .loop .inv .alike) _ (t .before .before .before .pre), timed-same _ _ (l .loop .inv .alike) _ _ (t .is-timed .ensures))
 
 add-k : tie.Need-add-k Inv-loop μ-loop
 add-k c = search needs
@@ -48,7 +47,7 @@ fill-lengths-spec =
     (tie.spec
     Inv-loop
     μ-loop
-    has-triggers-requires
+    is-timed-requires
     loop-holds
     fill-row-requires
     add-k

@@ -24,7 +24,6 @@ abbrev μ-loop : tie.MeasureT-loop
 
 -- the rule of this number is USE
 is-use : (rule : Rule) → ruleNumber rule ≡ 14 → rule ≡ Use
-unfolding ruleNumber
 is-use Reference e = absurd (omega arith)
 is-use Loop e = absurd (omega arith)
 is-use Use e = refl
