@@ -7,10 +7,13 @@ use Rattle.finding.proofs.hinted.Statement.{statement}
 use Rattle.finding.proofs.hinted.Tie as tie
 
 abbrev Inv-loop : tie.InvT-loop
-Inv-loop rows hints n class id at₀ left₀ at left = 0 ≤ left
+Inv-loop rows hints n class id base at₀ left₀ at left = 0 ≤ left
 
 abbrev μ-loop : tie.MeasureT-loop
-μ-loop rows hints n class id at₀ left₀ at left = left
+μ-loop rows hints n class id base at₀ left₀ at left = left
+
+base-in-requires : tie.Need-base-in-requires Inv-loop μ-loop
+base-in-requires c κs = search needs
 
 home-of-requires : tie.Need-home-of-requires Inv-loop μ-loop
 home-of-requires c κs = search needs
@@ -31,10 +34,10 @@ returns-2 : tie.Need-returns-2 Inv-loop μ-loop
 returns-2 c = λ (h : _ < _). absurd (omega arith)
 
 row-in-requires : tie.Need-row-in-requires Inv-loop μ-loop
-row-in-requires c κs = search needs
+row-in-requires c κs = (omega arith, c .before .before .before .before .before .before .base-in .ensures .1)
 
 returns-3 : tie.Need-returns-3 Inv-loop μ-loop
-returns-3 c = let s = c .before .before .before .before .before .before .before .before .before in λ h. rw (rd-is (s .fits .class), rd-is (s .fits .id)) at (c .before .row-in .ensures h)
+returns-3 c = let s = c .before .before .before .before .before .before .before .before .before .before in λ h. rw (rd-is (s .fits .class), rd-is (s .fits .id)) at (c .before .row-in .ensures h)
 
 add-at : tie.Need-add-at Inv-loop μ-loop
 add-at c = search needs
@@ -57,6 +60,7 @@ hinted-spec =
     (tie.spec
     Inv-loop
     μ-loop
+    base-in-requires
     home-of-requires
     loop-holds
     returns

@@ -16,7 +16,7 @@ same-requires c κs = search needs
 returns : tie.Need-returns
 returns c = let s = c .before in
     let x = s .before .row-class in
-    noted-block _ _ _ _ (x .ensures) (compared _ _ _ _ (s .same .ensures) (rd-at _ (x .ok)) refl ∙ c .if1 .taken)
+    noted-block _ _ _ _ _ (x .ensures) (compared _ _ _ _ (s .same .ensures) (rd-at _ (x .ok)) refl ∙ c .if1 .taken)
 
 number-requires : tie.Need-number-requires
 number-requires c κs = search needs
@@ -45,7 +45,7 @@ returns-2 c = let l = c .before .before in
     let e = h .before .before in
     let s = e .before in
     let x = s .before .row-class in
-    noted-there _ _ _ _ (x .ensures) (compared _ _ _ _ (s .same .ensures) (rd-at _ (x .ok)) refl ∙ e .if1 .left) (rd-at _ (x .ok)) (rd-at _ (i .ok) ∙ i .ensures) (h .home-of .ensures) (f .free-from .ensures) (m .mark-of .ensures) (l .lay-hint .ensures)
+    noted-there _ _ _ _ _ (x .ensures) (compared _ _ _ _ (s .same .ensures) (rd-at _ (x .ok)) refl ∙ e .if1 .left) (rd-at _ (x .ok)) (rd-at _ (i .ok) ∙ i .ensures) (h .home-of .ensures) (f .free-from .ensures) (m .mark-of .ensures) (l .lay-hint .ensures)
 
 pub note-row-spec : {M : Type 1} → statement M
 note-row-spec =
