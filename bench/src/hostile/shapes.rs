@@ -47,14 +47,14 @@ pub fn run_length_shape(size: usize) -> Sequence {
 }
 
 /// Gradients of a 1.4 file that in turn refer to two shapes of a million samples, each of which is
-/// stored in three lines.
+/// stored in three lines. Their lines are long, so that there are hints for all rows.
 pub fn shared_shapes(size: usize) -> Sequence {
     let mut text = head();
     text.push_str("[BLOCKS]\n1 1000000 0 1 0 0 0 0\n[GRADIENTS]\n");
     let mut events = 0;
     while text.len() < size {
         events += 1;
-        writeln!(text, "{events} 1000 {} 0 0", 1 + events % 2).expect("a text");
+        writeln!(text, "{events} 1000.0000000000000000000000 {} 0 0", 1 + events % 2).expect("a text");
     }
     text.push_str("[SHAPES]\n");
     for id in [1, 2] {
