@@ -1,4 +1,6 @@
 // The first row that repeats an ID of its class. Classes whose IDs ascend repeat none; what is met in the others is kept in a set, part by part.
+#![tactic(auto)]
+
 ghost use Rattle.std.specs.Prelude.{◌+◌, ◌≤◌, ◌≡◌};
 ghost use Rattle.sets.specs.Sets.{kept_of, places_after, unless_new, AllMet};
 ghost use Rattle.tables.specs.Tables.{first_such, class_at, is_again, first_again};

@@ -1,9 +1,11 @@
 // What reading answers: an acceptance with its counts, or a numbered refusal with its line.
+#![tactic(auto)]
+
 ghost use Rattle.std.specs.Prelude.{◌≡◌};
 ghost use Rattle.answers.specs.Answers.{refusal_number, answer_number, answer_line, rows_used, samples_used, is_accepted};
 
 // Why a file is refused, in the paper's order.
-#[derive(Drop)]
+#[derive(Clone, Copy)]
 pub enum Refusal {
     Big,
     Line,
@@ -52,7 +54,7 @@ impl Refusal {
 }
 
 // What reading answers: how many rows and samples an accepted file has, or why it is refused and at which line, where 0 is none.
-#[derive(Drop)]
+#[derive(Clone, Copy)]
 pub enum Answer {
     Accepted { rows: usize, samples: usize },
     Refused(Refusal, usize),

@@ -1,4 +1,6 @@
 // How long blocks and extension chains last, and what is asked of blocks: LONG and OUTLASTS, and in one pass all that a block can break.
+#![tactic(auto)]
+
 ghost use Rattle.tables.specs.Tables.{number_at, NoneAgain};
 ghost use Rattle.std.specs.Prelude.{◌≡◌, pos};
 ghost use Rattle.unit.specs.Time.{capped};

@@ -1,4 +1,6 @@
 // Extension chains, followed entry by entry with a count of entries left.
+#![tactic(auto)]
+
 ghost use Rattle.tables.specs.Tables.{NoneAgain};
 ghost use Rattle.std.specs.Prelude.{◌≡◌};
 ghost use Rattle.chains.specs.Chains.{next_entry, exceeds_of, loops_at};

@@ -1,4 +1,6 @@
 // Columns: which columns each kind of row has, and the number of each kind of row.
+#![tactic(auto)]
+
 ghost use Rattle.std.specs.Prelude.{◌≡◌, pos, length, get_or};
 ghost use Rattle.columns.specs.Columns.{columns_of, form_number, is_absent};
 ghost use Rattle.columns.specs.Inside.{kind_of, packed};
@@ -6,7 +8,7 @@ ghost use Rattle.columns.specs.Inside.{kind_of, packed};
 use shape::Edition;
 
 // What kind of number a column holds, and so its form and range.
-#[derive(Drop)]
+#[derive(Clone, Copy)]
 pub enum Kind {
     Id,
     Reference,
@@ -21,7 +23,7 @@ pub enum Kind {
 }
 
 // The rows that are read by a list of columns.
-#[derive(Drop)]
+#[derive(Clone, Copy)]
 pub enum Form {
     Block,
     Rf,

@@ -1,4 +1,6 @@
 // Decimal fields: what a decimal is worth, as it is kept; a number without its trailing zeros; whether two decimals are the same.
+#![tactic(auto)]
+
 ghost use Rattle.std.specs.Prelude.{◌≡◌, ◌+◌, ◌^◌, ◌<◌, ◌≤◌, length, drop};
 ghost use Rattle.std.proofs.Math.IntN.{sub_ℕ};
 ghost use Rattle.decimals.specs.Decimal.{mantissa_part, strip_from, decimal_of, same_decimal};
@@ -7,21 +9,21 @@ ghost use Rattle.decimals.specs.Inside.{sign_of, stop_of, gather_of, large, bare
 use numeral::{Decimal, Natural};
 
 // A decimal that was asked for, or none.
-#[derive(Drop)]
+#[derive(Clone, Copy)]
 pub enum Number {
     Value(Decimal),
     Bad,
 }
 
 // A number without its trailing zeros, and how many those were.
-#[derive(Drop)]
+#[derive(Clone, Copy)]
 pub struct Stripped {
     pub v: u64,
     pub zeros: u64,
 }
 
 // Digits gathered into a number of at most 18 digits, a count of zeros behind it, and where they stop: at a point, or at an e or the end.
-#[derive(Drop)]
+#[derive(Clone, Copy)]
 enum Gathered {
     Point(u64, u64, usize),
     End(u64, u64, usize),
@@ -29,14 +31,14 @@ enum Gathered {
 }
 
 // A mantissa without its trailing zeros, how many those were, how many digits stand behind the point, and where it ends.
-#[derive(Drop)]
+#[derive(Clone, Copy)]
 enum Mantissa {
     Value(u64, u64, u64, usize),
     Bad,
 }
 
 // A sign in front: whether it is a minus, and how long it is, 1 or 0.
-#[derive(Drop)]
+#[derive(Clone, Copy)]
 struct Sign {
     minus: bool,
     len: usize,

@@ -1,4 +1,6 @@
 // The section DEFINITIONS of a restated text: what the file defines, as read, and for 1.4.1 the site's value of each raster that the file lacks.
+#![tactic(auto)]
+
 ghost use Rattle.std.specs.Prelude.{◌≡◌, cond, [], ltb, length};
 ghost use Rattle.output.specs.Over.{Put};
 ghost use Rattle.grammar.specs.Definitions.{key_of, value_of};

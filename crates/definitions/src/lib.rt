@@ -1,4 +1,6 @@
 // The definitions of a file and of a site: the value of a key and where it stands, and whether a site's text is at fault.
+#![tactic(auto)]
+
 ghost use Rattle.std.specs.Prelude.{◌≡◌, ◌&&◌, ◌-◌, ◌≤◌, length, take, drop};
 ghost use Rattle.text.specs.Words.{same_bytes};
 ghost use Rattle.grammar.specs.Definitions.{key_of, value_part};

@@ -1,4 +1,6 @@
 // What is met again in a file: a key among its definitions, a name among its extensions, an ID or type among its rows.
+#![tactic(auto)]
+
 ghost use Rattle.std.specs.Prelude.{◌≡◌, ◌+◌, ◌≤◌, true, ltb, length, drop};
 ghost use Rattle.text.specs.Lines.{lines_of};
 ghost use Rattle.file.specs.Marks.{met_walk};
@@ -13,21 +15,21 @@ use places::{Found, State, Stepped};
 use sets::Kept;
 
 // The two sorts of words that may stand once in a file: keys of definitions, and names of extensions.
-#[derive(Drop)]
+#[derive(Clone, Copy)]
 pub enum Sort {
     Key,
     Name,
 }
 
 // What a line names that may stand once in a file.
-#[derive(Drop)]
+#[derive(Clone, Copy)]
 pub enum Once {
     Nothing,
     Word(Sort),
 }
 
 // Where the next word may stand: here, or only where EXTENSIONS begins, or nowhere.
-#[derive(Drop)]
+#[derive(Clone, Copy)]
 enum Ahead {
     Here,
     Names,

@@ -1,4 +1,6 @@
 // Delay rows for 1.3.1: one for each distinct nonzero duration of the blocks, numbered from 1 by first use.
+#![tactic(auto)]
+
 ghost use Rattle.std.specs.Prelude.{◌+◌, ◌<◌, ◌≡◌, length, take};
 ghost use Rattle.output.specs.Over.{over};
 ghost use Rattle.durations.specs.Durations.{is_alike, first_use, is_first, use_count, uses_in, delay_number, Listed, stands_at, is_new, new_use};

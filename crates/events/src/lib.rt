@@ -1,4 +1,6 @@
 // What is asked of an event by itself: USE, that its shapes fit it, and ALIGN, that its times lie on the rasters.
+#![tactic(auto)]
+
 ghost use Rattle.tables.specs.Tables.{NoneAgain};
 ghost use Rattle.std.specs.Prelude.{◌≡◌, negsuc};
 ghost use Rattle.tables.specs.Tables.{first_such, samples_at, samples_of};
@@ -9,7 +11,7 @@ ghost use Rattle.events.specs.Align.{is_off, micros_off, trap_off, misaligned_at
 use unit::{Micros, Nanos, OnRaster, Rasters};
 
 // What is asked of the samples of a shape: that they lie in -1 to 1, or that they are times which rise.
-#[derive(Drop)]
+#[derive(Clone, Copy)]
 enum Asked {
     Unit,
     Rising,

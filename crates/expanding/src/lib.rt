@@ -1,4 +1,6 @@
 // Expanding: the stored lines of a shape expanded into its samples, exactly as its edition says.
+#![tactic(auto)]
+
 ghost use Rattle.std.specs.Prelude.{◌≡◌, ◌≤◌, pos, set};
 ghost use Rattle.text.specs.Lines.{lines_of};
 ghost use Rattle.text.specs.Marks.{mark_of};
@@ -14,7 +16,7 @@ use signed::Sum;
 use text::Mark;
 
 // The next value from a place on, with the place behind its line; or that there is none, or that a line in front of it is at fault.
-#[derive(Drop)]
+#[derive(Clone, Copy)]
 enum Next {
     Value(Decimal, usize),
     End,
@@ -23,7 +25,7 @@ enum Next {
 
 // Where expanding stands: the place in the text, how many samples there are, and their sum so far; also the value in front of that place, which
 // is fresh and not laid yet, or laid and possibly repeated.
-#[derive(Drop)]
+#[derive(Clone, Copy)]
 enum State {
     Fresh {
         from: usize,

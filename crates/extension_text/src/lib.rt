@@ -1,4 +1,6 @@
 // EXTENSIONS of a restated text: its entries, each `extension` line, and the triggers and labels that follow it.
+#![tactic(auto)]
+
 ghost use Rattle.std.specs.Prelude.{◌≡◌, ◌∷◌};
 ghost use Rattle.output.specs.Over.{Put};
 ghost use Rattle.fields.specs.Fields.{fields_of};

@@ -1,10 +1,12 @@
 // Fields of a line, as places in it: the next, how many, which; a line trimmed; and the place of a word among the words of a text.
+#![tactic(auto)]
+
 ghost use Rattle.std.specs.Prelude.{◌≡◌, [], length, get_or};
 ghost use Rattle.text.specs.Words.{place_of};
 ghost use Rattle.fields.specs.Fields.{fields_of, field_at, trimmed_at};
 
 // A part of a line, from `start` to before `stop`.
-#[derive(Drop)]
+#[derive(Clone, Copy)]
 pub struct Part {
     pub start: usize,
     pub stop: usize,

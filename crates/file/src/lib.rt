@@ -1,4 +1,6 @@
 // A whole file, line by line: its rows with their lines, or the first fault; and where the sections begin that are sought again.
+#![tactic(auto)]
+
 ghost use Rattle.std.specs.Prelude.{◌≡◌, []};
 ghost use Rattle.file.specs.Whole.{judged, ended, is_fault, row_count};
 ghost use Rattle.file.specs.Rows.{row_at, rows_of, line_of, laid_row, answer_of, Scanning};
@@ -10,7 +12,7 @@ use shape::Edition;
 
 // What reading all lines answers: the edition, how many rows and samples there are, and whether `[DEFINITIONS]` stands in the file; or the first
 // fault and its line, 0 at the end of the file.
-#[derive(Drop)]
+#[derive(Clone, Copy)]
 pub enum Scanned {
     File {
         edition: Edition,
@@ -22,7 +24,7 @@ pub enum Scanned {
 }
 
 // Where a walk over the lines of a file stands: the place, how many lines were passed, and the state there.
-#[derive(Drop)]
+#[derive(Clone, Copy)]
 pub struct Walk {
     pub at: usize,
     pub lines: usize,
@@ -30,7 +32,7 @@ pub struct Walk {
 }
 
 // What reading all lines answers, and where the walk stands that first met EXTENSIONS, and SHAPES; at the front of the file if it never did.
-#[derive(Drop)]
+#[derive(Clone, Copy)]
 pub struct Marked {
     pub scanned: Scanned,
     pub names: Walk,

@@ -1,21 +1,27 @@
 // Reads files, each with a site's definitions, from standard input, and applies every rule from LINE to OUTLASTS to each, in order. Writes for each
 // file the refusal and its line, or that it is accepted, with its rows and samples.
 // A record is a line `FILE SITE` with two counts of bytes, then the bytes of the file, then the bytes of the site.
+#![tactic(auto)]
+
 ghost use Rattle.std.specs.Prelude.{◌≡◌, ◌+◌, ◌-◌, ◌≤◌, min, true};
 ghost use Rattle.file.specs.Marks.{met_walk};
 ghost use Rattle.passing.specs.Sound.{sound_of};
 ghost use Rattle.tables.specs.Tables.{NoneAgain};
 
 use file::{Scanned, Walk};
-use libc::{STDIN_FILENO, STDOUT_FILENO};
 use numeral::Natural;
 use places::{Found, Stepped};
 use rules::Rule;
 use shape::Edition;
 use unit::Rasters;
 
+// The descriptors of standard input and output.
+const STDIN_FILENO: i32 = 0;
+
+const STDOUT_FILENO: i32 = 1;
+
 // A refusal's number and its line; number 0 is none.
-#[derive(Drop)]
+#[derive(Clone, Copy)]
 struct Verdict {
     number: u64,
     line: usize,

@@ -1,14 +1,20 @@
 // Reads files, each with a site's definitions, from standard input. Writes for each file its rows with their lines and stored lines, or its fault, then
 // the values of the four rasters and whether the site's definitions are good.
 // A record is a line `FILE SITE` with two counts of bytes, then the bytes of the file, then the bytes of the site.
+#![tactic(auto)]
+
 ghost use Rattle.std.specs.Prelude.{◌≤◌, true, ◌≡◌, length};
 ghost use Rattle.passing.specs.Sound.{sound_of};
 
 use file::Scanned;
-use libc::{STDIN_FILENO, STDOUT_FILENO};
 use numeral::Natural;
 use places::Fault;
 use shape::Edition;
+
+// The descriptors of standard input and output.
+const STDIN_FILENO: i32 = 0;
+
+const STDOUT_FILENO: i32 = 1;
 
 // Hands a text to standard output.
 fn write(text: &[u8]) {

@@ -1,4 +1,6 @@
 // Finding a row by its class and ID. Hints, noted once for all rows, tell where a row may stand; a hint is looked at, never believed.
+#![tactic(auto)]
+
 ghost use Rattle.std.specs.Prelude.{◌-◌, ◌≤◌, ◌<◌, ◌≡◌, true};
 ghost use Rattle.tables.specs.Tables.{is_row_of, first_row, NoneAgain, met_row, met_number, samples_of};
 ghost use Rattle.finding.specs.Hints.{group_of, room_of, home_of, free_from, laid_on, mark_of, first_event, base_mark, based_on, base_of, noted_row, noted_all};

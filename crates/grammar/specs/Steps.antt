@@ -1,5 +1,5 @@
 -- One line where a file stands. "Then 2 to 5 line by line: the first faulty line answers, with its lowest number."
-use Rattle.std.specs.Prelude.{ℕ, ◌+◌, min, Bool, true, false, cond, not, List, [], ◌∷◌, eqb, ℤ, pos, get_or, set, drop}
+use Rattle.std.specs.Prelude.{ℕ, ◌+◌, min, Bool, true, false, cond, List, [], ◌∷◌, eqb, ℤ, pos, get_or, drop}
 use Rattle.fields.specs.Fields.{fields_of}
 use Rattle.text.specs.Lines.{bare_of, line_at}
 use Rattle.text.specs.Marks.{mark_of, breaks_line}

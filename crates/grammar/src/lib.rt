@@ -1,4 +1,6 @@
 // One line of a file where the file stands: what it gives, and where the file stands behind it.
+#![tactic(auto)]
+
 ghost use Rattle.std.specs.Prelude.{◌≡◌, pos, ◌∷◌, false, not, ◌≤◌, replicate};
 ghost use Rattle.grammar.specs.Definitions.{value_of, value_part};
 ghost use Rattle.grammar.specs.Steps.{gave_of, defined_of, blank_step, definition_step, row_step, label_step, listed_of, extension_step, listed_step, extensions_step, head_step, counted_of, count_step, value_row, lines_step, plain_step, step_of, read_at};
@@ -15,7 +17,7 @@ use shape::Item;
 use text::Mark;
 
 // A line that was read where it stands, and where the next line starts.
-#[derive(Drop)]
+#[derive(Clone, Copy)]
 pub struct Read {
     pub did: Stepped,
     pub next: usize,

@@ -1,4 +1,6 @@
 // Lines that have a form of their own: labels, `extension` lines, and the two lines of a shape's head.
+#![tactic(auto)]
+
 ghost use Rattle.std.specs.Prelude.{◌≡◌, false};
 ghost use Rattle.fields.specs.Fields.{fields_of};
 ghost use Rattle.text.specs.Words.{place_of};
@@ -12,7 +14,7 @@ use shape::Edition;
 const LARGEST_ID: u64 = 2147483647;
 
 // What such a line holds: a label's ID, value and number; or an extension's type and the code of its name.
-#[derive(Drop)]
+#[derive(Clone, Copy)]
 pub enum Head {
     Label(u64, i64, usize),
     Extension(u64, usize),

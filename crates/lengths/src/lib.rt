@@ -1,4 +1,6 @@
 // How long the event of one row lasts. All times are in the units of `unit`.
+#![tactic(auto)]
+
 ghost use Rattle.tables.specs.Tables.{NoneAgain};
 ghost use Rattle.std.specs.Prelude.{◌≡◌};
 ghost use Rattle.unit.specs.Time.{capped};

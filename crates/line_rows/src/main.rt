@@ -1,9 +1,15 @@
 // Reads lines from standard input and writes, under each, every row, label, `extension` line and head of a shape that it is.
+#![tactic(auto)]
+
 use columns::Form;
 use heads::Head;
-use libc::{STDIN_FILENO, STDOUT_FILENO};
 use numeral::Natural;
 use shape::Edition;
+
+// The descriptors of standard input and output.
+const STDIN_FILENO: i32 = 0;
+
+const STDOUT_FILENO: i32 = 1;
 
 // Writes how an answer begins: what the line was read as.
 fn put_name(out: &mut [u8], name: &[u8]) -> usize {

@@ -1,7 +1,11 @@
 // Expands shapes of up to a million samples, and writes what expanding answers: however long a shape is, the stack holds.
 // The table lent for a million samples is short, so the answer there is ROOM, which comes only after a good expansion.
-use libc::STDOUT_FILENO;
+#![tactic(auto)]
+
 use shape::{Edition, Expanded};
+
+// The descriptor of standard output.
+const STDOUT_FILENO: i32 = 1;
 
 // Four values whose sum is zero. No two neighbours are equal, also where they are repeated.
 const VALUES: [u8; 9] = [49, 10, 48, 10, 45, 49, 10, 48, 10];

@@ -1,5 +1,7 @@
 // What is looked up in a file with a site's definitions: the value of a key, and the stored lines of a shape. Each is handed back as a part of the lent
 // texts, or told by where it stands in them.
+#![tactic(auto)]
+
 ghost use Rattle.std.specs.Prelude.{◌≡◌};
 ghost use Rattle.file.specs.Rows.{scanned_of};
 ghost use Rattle.lookups.specs.Looking.{is_at_fault, is_faulty, looked_up, stored_up};
@@ -9,7 +11,7 @@ use fields::Part;
 use file::Scanned;
 
 // Which of the two lent texts.
-#[derive(Drop)]
+#[derive(Clone, Copy)]
 pub enum Source {
     File,
     Site,
@@ -28,7 +30,7 @@ impl Source {
 }
 
 // Where something stands that was looked up: nowhere, or in one of the texts, from a place on and so many bytes long.
-#[derive(Drop)]
+#[derive(Clone, Copy)]
 pub enum Spot {
     Nowhere,
     In {

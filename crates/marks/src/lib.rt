@@ -1,4 +1,6 @@
 // A set of small numbers in a lent slice of bytes, in which each number has a bit of its own.
+#![tactic(auto)]
+
 ghost use Rattle.std.specs.Prelude.{◌≡◌, ◌%◌, ◌^◌};
 ghost use Rattle.marks.specs.Marks.{is_marked, marked};
 

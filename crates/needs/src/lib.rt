@@ -1,4 +1,6 @@
 // Which rasters restating needs: those that reading needs, and what the target needs besides.
+#![tactic(auto)]
+
 ghost use Rattle.std.specs.Prelude.{◌≡◌};
 ghost use Rattle.needs.specs.Needs.{site_rasters, lacks_for};
 

@@ -1,7 +1,13 @@
 // Reads number fields from standard input, one to a line, and writes what each is worth in every way that the library reads and prints one.
+#![tactic(auto)]
+
 use decimals::Number;
-use libc::{STDIN_FILENO, STDOUT_FILENO};
 use numeral::{Decimal, Natural, Signed};
+
+// The descriptors of standard input and output.
+const STDIN_FILENO: i32 = 0;
+
+const STDOUT_FILENO: i32 = 1;
 
 // Writes what parts two worths, and the name of the next one.
 fn put_name(out: &mut [u8], at: usize, name: &[u8]) -> usize {

@@ -1,4 +1,6 @@
 // Number fields: what an integer or a counter value is worth, and what a decimal is worth as a whole number or in steps of 10^-12.
+#![tactic(auto)]
+
 ghost use Rattle.std.specs.Prelude.{◌≡◌, cond, ◌*◌, ◌/◌, ◌%◌, ◌^◌, ◌<◌, ◌≤◌, eqb, pos, ◌+ℤ◌};
 ghost use Rattle.numeral.specs.Digits.{is_minus};
 ghost use Rattle.numeral.specs.Integer.{in_range, integer_of, signed_as, counter_of};
@@ -6,28 +8,28 @@ ghost use Rattle.numeral.specs.Worth.{whole_of, nearest, rounded_of};
 ghost use Rattle.numeral.specs.Inside.{shift_of, Held};
 
 // A natural number that was asked for, or none.
-#[derive(Drop)]
+#[derive(Clone, Copy)]
 pub enum Natural {
     Value(u64),
     Bad,
 }
 
 // A signed number that was asked for, or none.
-#[derive(Drop)]
+#[derive(Clone, Copy)]
 pub enum Signed {
     Value(i64),
     Bad,
 }
 
 // A decimal as it is kept: mantissa times ten to the exponent.
-#[derive(Drop)]
+#[derive(Clone, Copy)]
 pub struct Decimal {
     pub mantissa: i64,
     pub exponent: i64,
 }
 
 // A power of ten by which a number goes up or down.
-#[derive(Drop)]
+#[derive(Clone, Copy)]
 enum Shift {
     Up(u64),
     Down(u64),

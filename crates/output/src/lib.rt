@@ -1,4 +1,6 @@
 // Bytes laid over a lent output, what was laid from its front on, and what is lent, cleared.
+#![tactic(auto)]
+
 ghost use Rattle.std.specs.Prelude.{◌≡◌, [], ◌∷◌, pos, take};
 ghost use Rattle.output.specs.Over.{Put, cleared_from};
 

@@ -1,4 +1,6 @@
 // Lines that are passed over: in a file of which no line is at fault, most lines leave the file where it stands, and are not read again.
+#![tactic(auto)]
+
 ghost use Rattle.std.specs.Prelude.{◌≡◌};
 ghost use Rattle.text.specs.Marks.{mark_of};
 ghost use Rattle.passing.specs.Passing.{passes_in, passes_at, passes_of};

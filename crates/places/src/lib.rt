@@ -1,4 +1,6 @@
 // Where a file stands: the place, its edition and what it has met; what a line may give there; where a file begins and how it may end.
+#![tactic(auto)]
+
 ghost use Rattle.std.specs.Prelude.{◌≡◌};
 ghost use Rattle.places.specs.Places.{fault_number, lines_section, section_in, went_of, refused_of, moved_of, fresh, ending_of};
 
@@ -6,7 +8,7 @@ use columns::Form;
 use shape::Edition;
 
 // The row of VERSION that is due.
-#[derive(Drop)]
+#[derive(Clone, Copy)]
 pub enum Due {
     Major,
     Minor,
@@ -14,7 +16,7 @@ pub enum Due {
 }
 
 // What the lines of a section are; behind VERSION's three rows there are none.
-#[derive(Drop)]
+#[derive(Clone, Copy)]
 pub enum Lines {
     None,
     Definitions,
@@ -23,7 +25,7 @@ pub enum Lines {
 }
 
 // What the lines of EXTENSIONS are: entries, then rows of the extension that was named last; of labels, whether they are incremented.
-#[derive(Drop)]
+#[derive(Clone, Copy)]
 pub enum Listed {
     Entries,
     Triggers,
@@ -32,7 +34,7 @@ pub enum Listed {
 }
 
 // Where in a file a line stands.
-#[derive(Drop)]
+#[derive(Clone, Copy)]
 pub enum Place {
     Start,
     Version(Due),
@@ -44,7 +46,7 @@ pub enum Place {
 }
 
 // The refusals of a single line.
-#[derive(Drop)]
+#[derive(Clone, Copy)]
 pub enum Fault {
     Line,
     Version,
@@ -67,7 +69,7 @@ impl Fault {
 }
 
 // What a line gives.
-#[derive(Drop)]
+#[derive(Clone, Copy)]
 pub enum Found {
     Nothing,
     Row,
@@ -76,7 +78,7 @@ pub enum Found {
 }
 
 // Where a file stands: the place, its edition, the sections that were met, and how many samples its shapes have so far.
-#[derive(Drop)]
+#[derive(Clone, Copy)]
 pub struct State {
     pub place: Place,
     pub edition: Edition,
@@ -112,7 +114,7 @@ pub fn section_in(place: Place) -> usize
 }
 
 // What a line gave, a row's line and numbers, and where the file stands behind it.
-#[derive(Drop)]
+#[derive(Clone, Copy)]
 pub struct Stepped {
     pub found: Found,
     pub line: usize,

@@ -1,4 +1,6 @@
 // Numbers written out over a lent output: what does not fit is dropped, and counting goes on.
+#![tactic(auto)]
+
 ghost use Rattle.std.specs.Prelude.{◌≡◌, ◌++◌, ◌≤◌, ◌^◌, pos, negsuc, ◌+ℤ◌};
 ghost use Rattle.output.specs.Over.{Put};
 ghost use Rattle.print.specs.Printed.{digits_of, number_text, signed_text, power_text, decimal_text, sample_text};

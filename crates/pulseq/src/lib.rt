@@ -1,5 +1,7 @@
-// The library's functions for C and Rust. Each answers for every input: it writes all of what is lent, and lays the numbers of its answer over a lent
-// `answer`, as many as fit, with zeros behind them.
+// The library's functions for C and Rust, which `pulseq_c` exports. Each answers for every input: it writes all of what is lent, and lays the numbers
+// of its answer over a lent `answer`, as many as fit, with zeros behind them.
+#![tactic(auto)]
+
 ghost use Rattle.std.specs.Prelude.{◌≡◌, length, get_or, replicate};
 ghost use Rattle.reader.specs.Reading.{zeros};
 ghost use Rattle.pulseq.specs.Exports.{told, edition_of, ReadTold, ExpandTold, WriteTold, RestateTold, DefinitionTold, StoredTold};
@@ -7,7 +9,7 @@ ghost use Rattle.pulseq.specs.Exports.{told, edition_of, ReadTold, ExpandTold, W
 use shape::Edition;
 
 // What a number names: an edition, or none.
-#[derive(Drop)]
+#[derive(Clone, Copy)]
 enum Named {
     Known(Edition),
     Unknown,
@@ -48,8 +50,7 @@ fn tell(answer: &mut [u64], numbers: &[u64])
 }
 
 // Reads a file with a site's definitions into lent tables, and tells the number, the line, and how many rows and samples are used.
-#[unsafe(no_mangle)]
-pub extern "C" fn pulseq_read<'a>(
+pub fn pulseq_read<'a>(
     file: &'a [u8],
     site: &'a [u8],
     rows: &mut [i64],
@@ -68,14 +69,7 @@ pub extern "C" fn pulseq_read<'a>(
 }
 
 // Expands stored lines into lent samples, and tells the number and how many samples are used.
-#[unsafe(no_mangle)]
-pub extern "C" fn pulseq_expand(
-    stored: &[u8],
-    num: u64,
-    edition: u64,
-    samples: &mut [i64],
-    answer: &mut [u64],
-)
+pub fn pulseq_expand(stored: &[u8], num: u64, edition: u64, samples: &mut [i64], answer: &mut [u64])
     ensures { ExpandTold stored.now num edition samples.old answer.old samples.new answer.new }
 {
     match edition_of(edition) {
@@ -95,8 +89,7 @@ pub extern "C" fn pulseq_expand(
 }
 
 // Writes samples as stored lines into a lent output, and tells the number and how long the text is.
-#[unsafe(no_mangle)]
-pub extern "C" fn pulseq_write(samples: &[i64], edition: u64, out: &mut [u8], answer: &mut [u64])
+pub fn pulseq_write(samples: &[i64], edition: u64, out: &mut [u8], answer: &mut [u64])
     ensures { WriteTold samples.now edition out.old answer.old out.new answer.new }
 {
     match edition_of(edition) {
@@ -126,8 +119,7 @@ fn clear_all(rows: &mut [i64], samples: &mut [i64], out: &mut [u8])
 
 // Restates a file with a site's definitions to a target, reading it into lent tables and writing its text into a lent output, and tells the number, the
 // line, how many rows and samples are used, and how long the text is.
-#[unsafe(no_mangle)]
-pub extern "C" fn pulseq_restate<'a>(
+pub fn pulseq_restate<'a>(
     file: &'a [u8],
     site: &'a [u8],
     target: u64,
@@ -158,8 +150,7 @@ pub extern "C" fn pulseq_restate<'a>(
 }
 
 // Finds where the value of a key stands in the file or the site's definitions, and tells which of the two, the place and the length.
-#[unsafe(no_mangle)]
-pub extern "C" fn pulseq_definition(file: &[u8], site: &[u8], key: &[u8], answer: &mut [u64])
+pub fn pulseq_definition(file: &[u8], site: &[u8], key: &[u8], answer: &mut [u64])
     ensures { DefinitionTold file.now site.now key.now answer.old answer.new }
 {
     let spot = lookups::definition_spot(file, site, key);
@@ -171,8 +162,7 @@ pub extern "C" fn pulseq_definition(file: &[u8], site: &[u8], key: &[u8], answer
 }
 
 // Finds where the stored lines of a shape stand in the file, and tells 1, the place and the length, or zeros.
-#[unsafe(no_mangle)]
-pub extern "C" fn pulseq_stored(file: &[u8], site: &[u8], id: i64, answer: &mut [u64])
+pub fn pulseq_stored(file: &[u8], site: &[u8], id: i64, answer: &mut [u64])
     ensures { StoredTold file.now site.now id answer.old answer.new }
 {
     let spot = lookups::stored_spot(file, site, id);

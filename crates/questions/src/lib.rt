@@ -1,4 +1,6 @@
 // What is asked of a whole file beside its lines and its rows: BIG, MISSING, ROOM and SITE; the order of the rules over its rows; and the refusals.
+#![tactic(auto)]
+
 ghost use Rattle.std.specs.Prelude.{◌≡◌};
 ghost use Rattle.file.specs.Rows.{rows_of};
 ghost use Rattle.questions.specs.Asked.{is_big, fault_refusal, rule_refusal, any_block, is_missing, lacks_room, bad_site, rule_at};

@@ -1,4 +1,6 @@
 // The rasters of a file and a site, in nanoseconds, and whether a needed one is missing.
+#![tactic(auto)]
+
 ghost use Rattle.std.specs.Prelude.{◌≡◌};
 ghost use Rattle.rasters.specs.Rasters.{raster_of, text_of, rasters_of, lacks};
 

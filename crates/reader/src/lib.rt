@@ -1,5 +1,7 @@
 // Reading a file with a site's definitions, in one call for every byte string: an acceptance with its tables, or a numbered refusal with its line and
 // tables of zeros.
+#![tactic(auto)]
+
 ghost use Rattle.std.specs.Prelude.{◌≤◌, ◌≡◌, length, true};
 ghost use Rattle.tables.specs.Tables.{NoneAgain};
 ghost use Rattle.file.specs.Rows.{rows_of, scanned_of};

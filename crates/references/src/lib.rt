@@ -1,4 +1,6 @@
 // References: which class each number of a row refers to, and whether it meets a row there.
+#![tactic(auto)]
+
 ghost use Rattle.tables.specs.Tables.{NoneAgain};
 ghost use Rattle.std.specs.Prelude.{◌≡◌, pos, get_or};
 ghost use Rattle.references.specs.References.{duration_ref, block_refs, rf_refs, gradient_refs, extension_ref, entry_refs, ref_at, misses_at, dangles_at};

@@ -1,4 +1,6 @@
 // What is met again in a file, from its text alone: an ID or type among its rows, a name among its extensions, a key among its definitions.
+#![tactic(auto)]
+
 ghost use Rattle.std.specs.Prelude.{true, ◌&&◌, ◌≡◌, ◌+◌, ◌≤◌, ltb, length, drop};
 ghost use Rattle.text.specs.Lines.{lines_of};
 ghost use Rattle.passing.specs.Sound.{sound_of};

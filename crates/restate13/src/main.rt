@@ -1,9 +1,18 @@
 // Restates a file to 1.3.1: reads it on standard input and the site's definitions from `site.def` in the working directory, where there is one, and
 // prints the text, or `refused N line L`. It takes files of at most 32,768 bytes, 100 rows and 1,000 samples, and texts of at most 8,192 bytes.
+#![tactic(auto)]
+
 ghost use Rattle.io.specs.Counts.{IsPrefixLen};
 
-use libc::{STDIN_FILENO, STDOUT_FILENO};
 use shape::Edition;
+use std::fs;
+use std::io::Read;
+use std::rt::Files;
+
+// The descriptors of standard input and output.
+const STDIN_FILENO: i32 = 0;
+
+const STDOUT_FILENO: i32 = 1;
 
 // Prints a refusal by its number and line.
 fn show_refused(number: u64, line: usize) {
@@ -29,21 +38,37 @@ fn restate<'a>(file: &'a [u8], site: &'a [u8]) {
     show_refused(restated.number(), restated.line());
 }
 
-// Reads the site's definitions, as many bytes as the buffer holds; none where there is no such file.
-fn read_site(buffer: &mut [u8]) -> usize
+// Reads from a file until the buffer is full, the file ends or a read fails, and tells how many bytes stand in the buffer.
+fn read_full<F: Read>(file: &mut F, buffer: &mut [u8]) -> usize
     ensures { IsPrefixLen result buffer.new }
 {
-    let descriptor = os::open_read(b"site.def");
-    if descriptor < 0 {
-        return 0;
+    let mut done = 0;
+    while done < buffer.len() {
+        match file.read(&mut buffer[done..]) {
+            Ok(n) => {
+                if n == 0 {
+                    return done;
+                }
+                done += n;
+            }
+            Err(_) => return done,
+        }
     }
-    let n = io::read_full(descriptor, buffer);
-    libc::close(descriptor);
-    n
+    done
+}
+
+// Reads the site's definitions, as many bytes as the buffer holds; none where there is no such file.
+fn read_site(files: &impl Files, buffer: &mut [u8]) -> usize
+    ensures { IsPrefixLen result buffer.new }
+{
+    match fs::open(files, "site.def") {
+        Ok(mut file) => read_full(&mut file, buffer),
+        Err(_) => 0,
+    }
 }
 
 // Reads both texts, each into a buffer one byte longer than what is taken, so that a longer one is seen to be longer; a file that is too long is BIG.
-fn main() {
+fn main(rt: HostRuntime) {
     let mut input = [0u8; 32769];
     let n = io::read_full(STDIN_FILENO, &mut input);
     if 32768 < n {
@@ -51,6 +76,6 @@ fn main() {
         return;
     }
     let mut definitions = [0u8; 4097];
-    let m = read_site(&mut definitions);
+    let m = read_site(&rt, &mut definitions);
     restate(&input[..n], &definitions[..m]);
 }

@@ -1,4 +1,6 @@
 // The text of a file restated to a target edition: all its sections in order, written over a lent output.
+#![tactic(auto)]
+
 ghost use Rattle.std.specs.Prelude.{◌≡◌};
 ghost use Rattle.output.specs.Over.{Put};
 ghost use Rattle.restated.specs.Text.{delays_for, event_sections, restated_text};

@@ -1,5 +1,7 @@
 // Restating a file to a target edition, in one call for every byte string: the text and the tables it was made of, or a numbered refusal with its line
 // and zeros throughout.
+#![tactic(auto)]
+
 ghost use Rattle.std.specs.Prelude.{◌≡◌};
 ghost use Rattle.restater.specs.Answers.{restated_number, restated_line, rows_read, samples_read, text_length, is_text};
 ghost use Rattle.restater.specs.Restating.{Restating};
@@ -9,7 +11,7 @@ use answers::{Answer, Refusal};
 use shape::Edition;
 
 // What restating answers: how many rows and samples were read and how long the text is; or a refusal, of reading, UNSAYABLE or OUTPUT.
-#[derive(Drop)]
+#[derive(Clone, Copy)]
 pub enum Restated {
     Text {
         rows: usize,

@@ -1,4 +1,6 @@
 // Rows as text: a row's numbers written out by the columns of its kind.
+#![tactic(auto)]
+
 ghost use Rattle.std.specs.Prelude.{◌≡◌, ◌<◌, ◌^◌, pos, get_or, drop};
 ghost use Rattle.output.specs.Over.{Put};
 ghost use Rattle.columns.specs.Columns.{columns_of, width_of};

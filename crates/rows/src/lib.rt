@@ -1,4 +1,6 @@
 // Rows: a line read by the columns of its section into a row's twelve numbers, by itself or where it stands in a text.
+#![tactic(auto)]
+
 ghost use Rattle.std.specs.Prelude.{◌<◌, ◌≡◌, get_or, true, false};
 ghost use Rattle.std.proofs.Math.Option.{none};
 ghost use Rattle.fields.specs.Fields.{fields_of};
@@ -14,7 +16,7 @@ use numeral::Natural;
 use shape::Edition;
 
 // What a field is worth in a column: one number of the row, or two.
-#[derive(Drop)]
+#[derive(Clone, Copy)]
 pub enum Cell {
     One(i64),
     Two(i64, i64),
@@ -22,14 +24,14 @@ pub enum Cell {
 }
 
 // Digits of a line: what they are worth, and the place behind them.
-#[derive(Drop)]
+#[derive(Clone, Copy)]
 enum Gathered {
     Digits(u64, usize),
     Bad,
 }
 
 // What was taken from a line for a column, and the place behind it.
-#[derive(Drop)]
+#[derive(Clone, Copy)]
 enum Taken {
     One(i64, usize),
     Two(i64, i64, usize),
@@ -37,14 +39,14 @@ enum Taken {
 }
 
 // A line read as a row: whether it is one, and its numbers.
-#[derive(Drop)]
+#[derive(Clone, Copy)]
 pub struct Row {
     pub good: bool,
     pub cells: [i64; 12],
 }
 
 // A line of a section read as a row: whether it is one that may stand in a file, its numbers, and where the next line starts.
-#[derive(Drop)]
+#[derive(Clone, Copy)]
 pub struct RowLine {
     pub good: bool,
     pub cells: [i64; 12],

@@ -1,5 +1,7 @@
 // The rules over the tables, from REFERENCE to OUTLASTS: each is asked of one row, and answered at the first row for which it is broken. And what
 // the tables hold when all have passed: a block's length.
+#![tactic(auto)]
+
 ghost use Rattle.tables.specs.Tables.{first_such, NoneAgain};
 ghost use Rattle.std.specs.Prelude.{◌≡◌};
 ghost use Rattle.blocks.specs.Inside.{Timed};
@@ -11,7 +13,7 @@ use shape::Edition;
 use unit::Rasters;
 
 // What is asked of each row, in the paper's order.
-#[derive(Drop)]
+#[derive(Clone, Copy)]
 pub enum Rule {
     Reference,
     Loop,

@@ -1,4 +1,6 @@
 // Rows as a target edition says them, written out section by section: each block with its duration in the target's own way.
+#![tactic(auto)]
+
 ghost use Rattle.std.specs.Prelude.{◌≤◌, ◌≡◌, length, take};
 ghost use Rattle.output.specs.Over.{Put};
 ghost use Rattle.durations.specs.Durations.{delay_number, FirstUsed};

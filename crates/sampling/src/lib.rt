@@ -1,4 +1,6 @@
 // The shapes of a whole file of which no line is at fault: the stored lines of each expanded into its part of the lent samples.
+#![tactic(auto)]
+
 ghost use Rattle.std.specs.Prelude.{◌≡◌, min, nat_abs, true};
 ghost use Rattle.file.specs.Marks.{met_walk};
 ghost use Rattle.passing.specs.Sound.{sound_of};
@@ -11,7 +13,7 @@ use file::Walk;
 use shape::{Edition, Expanded};
 
 // Has a row failed, and where the walk to its stored lines stands.
-#[derive(Drop)]
+#[derive(Clone, Copy)]
 struct Turned {
     failed: bool,
     walk: Walk,

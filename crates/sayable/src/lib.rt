@@ -1,4 +1,6 @@
 // UNSAYABLE: whether a file's rows and rasters can be said in a target edition.
+#![tactic(auto)]
+
 ghost use Rattle.std.specs.Prelude.{◌≡◌};
 ghost use Rattle.sayable.specs.Sayable.{is_kind, has_number, is_between, not_steps, nanos_at, is_unknown, has_time, off_micros, names_once, off_raster, unsaid13, unsaid14, unsaid, any_unsaid, differ, unsayable};
 

@@ -1,4 +1,6 @@
 // Sections of a restated text: VERSION, the sections whose rows are written by their columns, and the delay rows made for durations.
+#![tactic(auto)]
+
 ghost use Rattle.std.specs.Prelude.{◌≡◌, suc, min, ◌<◌, pos};
 ghost use Rattle.output.specs.Over.{Put};
 ghost use Rattle.signed.specs.Signed.{largest};

@@ -1,4 +1,6 @@
 // Section lines where a file stands, and the rows of VERSION.
+#![tactic(auto)]
+
 ghost use Rattle.std.specs.Prelude.{◌≡◌, ◌<◌};
 ghost use Rattle.fields.specs.Fields.{fields_of};
 ghost use Rattle.places.specs.Places.{went_of};

@@ -1,9 +1,11 @@
 // A set of numbers in a lent slice, in which 0 is an empty place: a number is kept, or was kept before, or finds no place.
+#![tactic(auto)]
+
 ghost use Rattle.std.specs.Prelude.{◌≡◌};
 ghost use Rattle.sets.specs.Sets.{way_of, kept_of, places_after, mixed, mixed_all, is_in};
 
 // What the way of a number meets first: the number itself, an empty place, or neither.
-#[derive(Drop)]
+#[derive(Clone, Copy)]
 enum Way {
     Held,
     Free(usize),
@@ -11,7 +13,7 @@ enum Way {
 }
 
 // Whether a number was new to a set and is kept now, or was kept before, or finds no place.
-#[derive(Drop)]
+#[derive(Clone, Copy)]
 pub enum Kept {
     New,
     Old,

@@ -1,5 +1,7 @@
 // The parts of a shape: the editions, what a stored line holds, how many values the lines hold, whether these are the samples themselves, the
 // sample that a value makes of the sum so far, and what expanding can answer.
+#![tactic(auto)]
+
 ghost use Rattle.std.specs.Prelude.{false, not, ◌≡◌, ◌<◌};
 ghost use Rattle.text.specs.Marks.{any_control, breaks_line};
 ghost use Rattle.fields.specs.Fields.{fields_of};
@@ -15,14 +17,14 @@ use signed::Sum;
 use text::Mark;
 
 // The rules that a file follows: those of 1.3.0 and 1.3.1, or those of 1.4.0 and 1.4.1.
-#[derive(Drop)]
+#[derive(Clone, Copy)]
 pub enum Edition {
     V13,
     V14,
 }
 
 // What expanding answers: how many samples, or the refusal FIELD, SHAPE or ROOM.
-#[derive(Drop)]
+#[derive(Clone, Copy)]
 pub enum Expanded {
     Samples(usize),
     Field,
@@ -57,7 +59,7 @@ impl Expanded {
 }
 
 // What a stored line holds.
-#[derive(Drop)]
+#[derive(Clone, Copy)]
 pub enum Item {
     Value(Decimal),
     Skipped,
@@ -65,14 +67,14 @@ pub enum Item {
 }
 
 // A stored line: what it holds, and where the next line starts.
-#[derive(Drop)]
+#[derive(Clone, Copy)]
 pub struct Held {
     pub item: Item,
     pub next: usize,
 }
 
 // Digits of a text: what they are worth behind a number in front of them, and the place behind them.
-#[derive(Drop)]
+#[derive(Clone, Copy)]
 struct Digits {
     v: u64,
     stop: usize,
@@ -80,7 +82,7 @@ struct Digits {
 
 // A number without a sign and an exponent: what its digits are worth, how many they are, how many of them stand behind the point, and the place
 // behind them all.
-#[derive(Drop)]
+#[derive(Clone, Copy)]
 struct Spelled {
     v: u64,
     count: usize,
@@ -89,14 +91,14 @@ struct Spelled {
 }
 
 // A value that stands alone on a line, and where the next line starts; or anything else, which is to be looked at more closely.
-#[derive(Drop)]
+#[derive(Clone, Copy)]
 enum Alone {
     Value(Decimal, usize),
     Other,
 }
 
 // How many values some lines hold, or that a line is at fault.
-#[derive(Drop)]
+#[derive(Clone, Copy)]
 pub enum Count {
     Values(usize),
     Faulty,

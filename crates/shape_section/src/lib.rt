@@ -1,4 +1,6 @@
 // SHAPES of a restated text: each shape with its ID, its count and its samples in the form that the target has for them.
+#![tactic(auto)]
+
 ghost use Rattle.output.specs.Over.{Put};
 ghost use Rattle.shape_section.specs.Shapes.{word_line, shape_text, shape_line, shapes_text, shape_section};
 

@@ -1,5 +1,5 @@
 -- What the inner functions answer. Nothing here needs to be believed: laws lead from these to the definitions of the other file.
-use Rattle.std.specs.Prelude.{ℕ, zero, suc, ◌-◌, ◌≤◌, ◌<◌, List, [], ◌∷◌, ◌≡◌, ℤ, pos, ◌-ℤ◌, length, drop, get_or}
+use Rattle.std.specs.Prelude.{ℕ, zero, suc, ◌-◌, ◌≤◌, ◌<◌, List, ◌∷◌, ◌≡◌, ℤ, pos, ◌-ℤ◌, length, drop, get_or}
 use Rattle.shape_text.specs.Written.{Run, differences_from, runs_of}
 
 -- the sample before the one at i; 0 before the first

@@ -1,4 +1,6 @@
 // Shapes: samples written as the stored lines of one, in the form its edition has.
+#![tactic(auto)]
+
 ghost use Rattle.std.specs.Prelude.{◌≡◌, [], ◌∷◌, true, ◌-◌, ◌<◌, length};
 ghost use Rattle.output.specs.Over.{Put, cleared_from};
 ghost use Rattle.print.specs.Printed.{sample_text};
@@ -9,7 +11,7 @@ use shape::Edition;
 use signed::Sum;
 
 // What writing answers: the length of the text, or the refusal SHAPE or OUTPUT.
-#[derive(Drop)]
+#[derive(Clone, Copy)]
 pub enum Written {
     Text(usize),
     Shape,

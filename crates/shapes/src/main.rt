@@ -1,10 +1,16 @@
 // Expands the shapes that standard input holds, and writes for each what expanding answers and all that was lent.
 // A case is a head line `EDITION NUM ROOM`, where the edition is 13 or 14, then the stored lines, then a line `=`.
+#![tactic(auto)]
+
 ghost use Rattle.std.specs.Prelude.{◌≤◌, length};
 
-use libc::{STDIN_FILENO, STDOUT_FILENO};
 use numeral::Natural;
 use shape::{Edition, Expanded};
+
+// The descriptors of standard input and output.
+const STDIN_FILENO: i32 = 0;
+
+const STDOUT_FILENO: i32 = 1;
 
 // What a field is worth as a number; 0 if it is none.
 fn number_of(field: &[u8]) -> u64 {

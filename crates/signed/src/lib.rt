@@ -1,11 +1,13 @@
 // Signed numbers: the one place where an i64 is compared, taken apart or made. All other code of the library hands an i64 on, or
 // works on its sign and its size.
+#![tactic(auto)]
+
 ghost use Rattle.std.specs.Prelude.{◌≡◌, ◌≤◌, min, nat_abs, ◌+ℤ◌, ◌-ℤ◌};
 ghost use Rattle.std.specs.Int.Signed.{lt_z};
 ghost use Rattle.signed.specs.Signed.{same_z, is_negative, largest, signed_of, within};
 
 // A sum that was asked to stay within a size.
-#[derive(Drop)]
+#[derive(Clone, Copy)]
 pub enum Sum {
     Value(i64),
     Beyond,

@@ -1,4 +1,6 @@
 // What restating asks of its source besides reading: SITE whatever its edition, and RASTER with what the target needs, each in its place.
+#![tactic(auto)]
+
 ghost use Rattle.std.specs.Prelude.{◌≡◌};
 ghost use Rattle.file.specs.Rows.{scanned_of};
 ghost use Rattle.sources.specs.Sources.{edition_in, own_rasters, is_below, lacks_rasters, bad_site_for, lacking_for, asked_for};

@@ -1,4 +1,6 @@
 // The stored lines of the shapes of a file of which no line is at fault, as parts of its text, and where they stand.
+#![tactic(auto)]
+
 ghost use Rattle.std.specs.Prelude.{◌≡◌, suc, ◌≤◌, true, drop};
 ghost use Rattle.text.specs.Lines.{lines_of, whole_lines_of};
 ghost use Rattle.text.specs.Marks.{mark_of};
@@ -13,7 +15,7 @@ use places::{State, Stepped};
 use text::Mark;
 
 // Where stored lines stand, the ID of their shape, and the walk from which the next shape is sought.
-#[derive(Drop)]
+#[derive(Clone, Copy)]
 pub struct Sought {
     pub part: Part,
     pub id: i64,

@@ -1,9 +1,11 @@
 // The tables: a row's numbers, the class that its ID belongs to, the first row with an ID, and the samples of a shape.
+#![tactic(auto)]
+
 ghost use Rattle.std.specs.Prelude.{◌≡◌, pos, take, drop};
 ghost use Rattle.tables.specs.Tables.{number_at, class_number, class_at, is_row_of, first_row, is_again, samples_at};
 
 // What an ID is unique in.
-#[derive(Drop)]
+#[derive(Clone, Copy)]
 pub enum Class {
     Block,
     Rf,

@@ -1,5 +1,7 @@
 // Texts: their lines, what kind of line one is, whether it may stand in a file, and whether two texts are the same.
 // Everything is a place in a slice: nothing is copied.
+#![tactic(auto)]
+
 ghost use Rattle.std.specs.Prelude.{◌<◌, true, ◌≡◌, length, get_or};
 ghost use Rattle.text.specs.Lines.{line_at};
 ghost use Rattle.text.specs.Marks.{is_blank, mark_of, is_control, any_control, breaks_line, cut_at};
@@ -7,14 +9,14 @@ ghost use Rattle.text.specs.Blanks.{skipped};
 ghost use Rattle.text.specs.Words.{same_bytes};
 
 // A line that starts at a place: where its text stops, and where the next line starts.
-#[derive(Drop)]
+#[derive(Clone, Copy)]
 pub struct Line {
     pub stop: usize,
     pub next: usize,
 }
 
 // The same, and whether the line holds no byte that only a comment may hold.
-#[derive(Drop)]
+#[derive(Clone, Copy)]
 pub struct Piece {
     pub stop: usize,
     pub next: usize,
@@ -22,7 +24,7 @@ pub struct Piece {
 }
 
 // What a line is by its first nonblank byte.
-#[derive(Drop)]
+#[derive(Clone, Copy)]
 pub enum Mark {
     Blank,
     Comment,

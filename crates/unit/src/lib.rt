@@ -1,22 +1,24 @@
 // Times in three units, which cannot be taken for each other. Each conversion has a name and says when it is exact.
 // No sum or product wraps: a time past the end of the scale counts as the longest.
+#![tactic(auto)]
+
 ghost use Rattle.std.specs.Prelude.{◌≡◌, ◌+◌, ◌*◌, max, ltb};
 ghost use Rattle.unit.specs.Time.{capped, in_micros, on_raster};
 
 // A time in nanoseconds; also the length of one step of a raster.
-#[derive(Drop)]
+#[derive(Clone, Copy)]
 pub struct Nanos(pub u64);
 
 // A time in microseconds.
-#[derive(Drop)]
+#[derive(Clone, Copy)]
 pub struct Micros(pub u64);
 
 // A time as a number of steps of a raster.
-#[derive(Drop)]
+#[derive(Clone, Copy)]
 pub struct RasterCount(pub u64);
 
 // The rasters of a file, in the paper's order; 0 ns is none.
-#[derive(Drop)]
+#[derive(Clone, Copy)]
 pub struct Rasters {
     pub gradient: Nanos,
     pub rf: Nanos,
@@ -25,14 +27,14 @@ pub struct Rasters {
 }
 
 // A time as whole microseconds, or one between two of them.
-#[derive(Drop)]
+#[derive(Clone, Copy)]
 pub enum InMicros {
     Whole(Micros),
     Between,
 }
 
 // A time as whole steps of a raster, or one that is off it.
-#[derive(Drop)]
+#[derive(Clone, Copy)]
 pub enum OnRaster {
     Steps(RasterCount),
     Off,

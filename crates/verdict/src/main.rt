@@ -1,9 +1,18 @@
 // Reads a file on standard input and the site's definitions from `site.def` in the working directory, where there is one, and prints the verdict:
 // `accepted, R rows, S samples` or `refused NAME, line L`. It takes files of at most 262,144 bytes, 10,000 rows and 100,000 samples.
+#![tactic(auto)]
+
 ghost use Rattle.io.specs.Counts.{IsPrefixLen};
 
 use answers::{Answer, Refusal};
-use libc::{STDIN_FILENO, STDOUT_FILENO};
+use std::fs;
+use std::io::Read;
+use std::rt::Files;
+
+// The descriptors of standard input and output.
+const STDIN_FILENO: i32 = 0;
+
+const STDOUT_FILENO: i32 = 1;
 
 // Ends a line and hands it to standard output.
 fn finish(out: &mut [u8], at: usize) {
@@ -83,21 +92,37 @@ fn judge<'a>(file: &'a [u8], site: &'a [u8]) {
     }
 }
 
-// Reads the site's definitions, as many bytes as the buffer holds; none where there is no such file.
-fn read_site(buffer: &mut [u8]) -> usize
+// Reads from a file until the buffer is full, the file ends or a read fails, and tells how many bytes stand in the buffer.
+fn read_full<F: Read>(file: &mut F, buffer: &mut [u8]) -> usize
     ensures { IsPrefixLen result buffer.new }
 {
-    let descriptor = os::open_read(b"site.def");
-    if descriptor < 0 {
-        return 0;
+    let mut done = 0;
+    while done < buffer.len() {
+        match file.read(&mut buffer[done..]) {
+            Ok(n) => {
+                if n == 0 {
+                    return done;
+                }
+                done += n;
+            }
+            Err(_) => return done,
+        }
     }
-    let n = io::read_full(descriptor, buffer);
-    libc::close(descriptor);
-    n
+    done
+}
+
+// Reads the site's definitions, as many bytes as the buffer holds; none where there is no such file.
+fn read_site(files: &impl Files, buffer: &mut [u8]) -> usize
+    ensures { IsPrefixLen result buffer.new }
+{
+    match fs::open(files, "site.def") {
+        Ok(mut file) => read_full(&mut file, buffer),
+        Err(_) => 0,
+    }
 }
 
 // Reads both texts, each into a buffer one byte longer than what is taken, so that a longer one is seen to be longer, and writes the verdict.
-fn main() {
+fn main(rt: HostRuntime) {
     let mut input = [0u8; 262145];
     let n = io::read_full(STDIN_FILENO, &mut input);
     if 262144 < n {
@@ -105,6 +130,6 @@ fn main() {
         return;
     }
     let mut definitions = [0u8; 4097];
-    let m = read_site(&mut definitions);
+    let m = read_site(&rt, &mut definitions);
     judge(&input[..n], &definitions[..m]);
 }
