@@ -6,7 +6,7 @@ use mathlib.Core.Path.{◌≡◌, refl, ap, ◌∙◌, sym}
 use native.Mathlib.Nat.{lt_of_le_of_lt}
 use native.Mathlib.Omega.{arith}
 use borrow.Author.Tests.{lt-ltb}
-use lib.ListN.{length, drop, drop_of_length-le}
+use lib.ListN.{length, drop_of_length-le}
 use Rattle.numeral.specs.Digits.{is_digit, all_digits, value_of, is_minus, unsigned}
 use Rattle.text.proofs.Cases.{and_both}
 use Rattle.decimals.specs.Decimal.{up_to, fraction, digits, is_mantissa, mantissa_part, exponent_part, strip_from, decimal_of}

@@ -1,16 +1,16 @@
 -- Bits of bytes: how the code finds one, and that one that is put in leaves the others as they are. Assumes nothing.
 use Prim.Native.Nat.{ℕ, zero, suc, ◌+◌, ◌*◌, ◌/◌, ◌%◌, ◌^◌, ◌≤◌, ◌<◌}
-use mathlib.Core.Bool.{Bool, true, false, cond, true≢false}
+use mathlib.Core.Bool.{true, false}
 use mathlib.Core.List.{List}
 use mathlib.Core.Logic.{◌⊎◌, inl, inr, ⊎_elim}
 use mathlib.Core.Path.{◌≡◌, refl, sym, ap, ◌∙◌}
 use native.Mathlib.Nat.{pow-suc, mul_comm, one-le-pow, div-div-eq-div-mul}
 use native.Mathlib.Omega.{arith}
-use borrow.Author.Tests.{eq-eqb, ne_eqb, eqb-true}
+use borrow.Author.Tests.{eq-eqb, ne_eqb}
 use lib.Dec.{eqb, lit<}
 use lib.ListN.{length, get_or, set, get_or-eq_default}
 use lib.Seq.{set_out, get_or-set_same, get_or-set_other}
-use Rattle.text.proofs.Cases.{true-or-false, eq-or-ne, lt-or-ge}
+use Rattle.text.proofs.Cases.{eq-or-ne, lt-or-ge}
 use Rattle.marks.specs.Marks.{bit_of, byte_of, is_marked, marked}
 
 -- ---- by a division

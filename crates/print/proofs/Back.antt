@@ -1,5 +1,5 @@
 -- What is printed reads back as the same number, for each printer, on its whole range. Assumes nothing.
-use Prim.Native.Nat.{ℕ, ◌+◌, ◌*◌, ◌-◌, ◌%◌, ◌≤◌, ◌<◌, ◌^◌}
+use Prim.Native.Nat.{ℕ, ◌+◌, ◌*◌, ◌%◌, ◌≤◌, ◌<◌, ◌^◌}
 use mathlib.Core.Bool.{Bool, true, false, cond}
 use mathlib.Core.List.{◌++◌}
 use mathlib.Core.Path.{◌≡◌, ap, ◌∙◌, sym}
@@ -14,7 +14,7 @@ use Rattle.signed.proofs.Difference.{sub_same, sub-pos, sub-add, sub-abs}
 use Rattle.signed.proofs.Sign.{sign-size, size-signed, sign_zero}
 use Rattle.numeral.specs.Digits.{is_minus, unsigned}
 use Rattle.numeral.specs.Integer.{in_range, integer_of, signed_as, counter_of}
-use Rattle.decimals.specs.Decimal.{digits, strip_from, kept, in_limits, is_unsigned, kept_of, decimal_of}
+use Rattle.decimals.specs.Decimal.{strip_from, kept, in_limits, is_unsigned, kept_of, decimal_of}
 use Rattle.numeral.specs.Worth.{round_at, rounded_of}
 use Rattle.numeral.specs.declared.Decimal.{Decimal}
 use Rattle.numeral.specs.declared.Natural.TheVariants.{Value as NaturalValue}

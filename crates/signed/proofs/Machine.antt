@@ -24,7 +24,7 @@ pub rd-is : {z : ℤ} → SFits w64 z → rd z ≡ z
 rd-is f = to_z-of_z f
 
 pub rd-at : (z : ℤ) → mag z < 2 ^ 63 → rd z ≡ z
-rd-at z h = to_z-of_z (record { sfits = h })
+rd-at z h = to_z-of_z {w = w64} (record { sfits = h })
 
 pub sfits-abs : (z : ℤ) → nat_abs z < 2 ^ 63 → SFits w64 z
 sfits-abs (pos n) h = record { sfits = h }

@@ -1,0 +1,36 @@
+-- `decimals::read_decimal` meets its contract: the sign is cut off, and the rest is read. Assumes nothing.
+use Prim.Native.Nat.{ℕ, ◌-◌, ◌≤◌}
+use mathlib.Core.List.{List}
+use mathlib.Core.Path.{◌≡◌, ◌∙◌}
+use native.Mathlib.Omega.{arith}
+use lib.ListN.{length, take, drop}
+use Rattle.decimals.specs.Decimal.{decimal_of}
+use Rattle.decimals.specs.Inside.{sign_of, body_of}
+use Rattle.decimals.specs.declared.Sign.{Sign}
+use Rattle.decimals.specs.declared.Number.{Number}
+use Rattle.numeral.proofs.Parts.{tail-part}
+use Rattle.decimals.proofs.Parts.{sign_fits}
+use Rattle.decimals.proofs.Bodies.{decimal-long, decimal-is}
+use Rattle.decimals.proofs.read_decimal.Goals.{After-sign_of-g}
+use Rattle.decimals.proofs.read_decimal.Goals as goal
+
+closed : (s : List ℕ) (g : Sign) (r : Number) → length s ≤ 32 → g ≡ sign_of s → r ≡ body_of g.minus (take (length s - g.len) (drop g.len s))
+    → r ≡ decimal_of s
+unfolding sign_of
+closed s g r h e p = p ∙ rw (tail-part s g.len, e) (decimal-is s h)
+
+pub returns-then-field-gt32 : goal.returns-then-field-gt32
+returns-then-field-gt32 c = decimal-long _ c.if-field-gt32.true
+
+pub slice_bounds-body-count : goal.slice_bounds-body-count
+slice_bounds-body-count c =
+    let the-sign : c.sign_of-g.result.len ≤ length c.args.field.now = sign_fits _ _ c.sign_of-g.ensures in
+    the-sign
+
+pub slice_bounds-body-start : goal.slice_bounds-body-start
+slice_bounds-body-start c =
+    let the-sign : c.sign_of-g.result.len ≤ length c.args.field.now = sign_fits _ _ c.sign_of-g.ensures in
+    the-sign
+
+pub returns : goal.returns
+returns c = closed _ _ _ (omega arith) c.sign_of-g.ensures c.body.ensures
