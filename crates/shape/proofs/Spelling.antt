@@ -1,16 +1,16 @@
 -- Values read where they stand in a text: the digits, with a point or not, a minus in front, and an LF behind. Assumes nothing.
 use Prim.Native.Nat.{ℕ, suc, ◌+◌, ◌*◌, ◌-◌, ◌≤◌, ◌<◌}
-use mathlib.Core.Bool.{Bool, true, false, cond, ◌&&◌}
+use mathlib.Core.Bool.{Bool, true, false}
 use mathlib.Core.List.{List, [], ◌∷◌, ◌++◌, append-nil, append_assoc}
 use mathlib.Core.Path.{◌≡◌, refl, sym, ap, ◌∙◌}
 use native.Mathlib.Nat.{add-zero}
 use native.Mathlib.Numerals.{add-one}
 use native.Mathlib.Omega.{arith}
-use borrow.Author.Tests.{eq-eqb, ne_eqb, eqb-true, lt-ltb, le-ltb, ltb-true, le-leb}
-use lib.Dec.{eqb, ltb, lit<}
+use borrow.Author.Tests.{ne_eqb, eqb-true, lt-ltb, le-ltb, ltb-true, le-leb}
+use lib.Dec.{eqb, ltb}
 use lib.ListN.{length, get_or, take, drop, length-append}
 use lib.Seq.{drop-cons}
-use Rattle.text.specs.Lines.{starts_lf, bare_len, pass_len, bare_of, line_at}
+use Rattle.text.specs.Lines.{bare_len, pass_len, bare_of, line_at}
 use Rattle.text.specs.Marks.{is_blank, mark_of, breaks_line, is_comment}
 use Rattle.text.specs.declared.Mark.TheVariants.{Plain}
 use Rattle.text.proofs.Cases.{and_both}

@@ -1,5 +1,5 @@
 -- A printed count, alone in a line, is read as a decimal that is worth the count. Assumes nothing.
-use Prim.Native.Nat.{ℕ, ◌+◌, ◌≤◌}
+use Prim.Native.Nat.{ℕ, ◌≤◌}
 use mathlib.Core.Bool.{false}
 use mathlib.Core.List.{◌++◌, append-nil}
 use mathlib.Core.Path.{◌≡◌, ap, sym, ◌∙◌}

@@ -1,0 +1,27 @@
+-- `heads::extension_in` meets its contract. Assumes nothing.
+use mathlib.Core.Path.{sym, ◌∙◌}
+use Rattle.heads.specs.Heads.{extension_word}
+use Rattle.heads.proofs.Forms.{extension-other-word, extension-unnamed, extension-no-number, extension-read}
+use Rattle.heads.proofs.extension_in.Goals as goal
+
+pub returns-then-not-same : goal.returns-then-not-same
+unfolding extension_word
+returns-then-not-same c = extension-other-word _ _ _ (sym c.same.ensures ∙ c.if-not-same.true)
+
+pub returns-then-not-is_name : goal.returns-then-not-is_name
+unfolding extension_word
+returns-then-not-is_name c = extension-unnamed _ _ _ (sym c.same.ensures ∙ c.if-not-same.false) (sym c.is_name.ensures ∙ c.if-not-is_name.true)
+
+pub returns-in-Value : goal.returns-in-Value
+unfolding extension_word
+returns-in-Value c =
+    extension-read _ _ _ (sym c.same.ensures ∙ c.if-not-same.false)
+    (sym c.is_name.ensures ∙ c.if-not-is_name.false)
+    _ c.read_integer.ensures _ c.in-Value.is _ c.extension_code.ensures
+
+pub returns-in-Bad : goal.returns-in-Bad
+unfolding extension_word
+returns-in-Bad c =
+    extension-no-number _ _ _ (sym c.same.ensures ∙ c.if-not-same.false)
+    (sym c.is_name.ensures ∙ c.if-not-is_name.false)
+    _ c.read_integer.ensures c.in-Bad.is

@@ -1,0 +1,31 @@
+-- `shape::plain_item` meets its contract: no field, a second one, or one, which is a decimal or not. Assumes nothing.
+use native.Mathlib.Omega.{arith}
+use Rattle.fields.proofs.Cut.{field-at, no_field}
+use Rattle.shape.specs.Stored.{number_item}
+use Rattle.shape.proofs.Items.{item-none, item-one, item-more}
+use Rattle.shape.proofs.plain_item.Goals as goal
+
+pub returns-then-line-start : goal.returns-then-line-start
+returns-then-line-start c = item-none (no_field _ 0 _ c.next_field-field.ensures c.if-line-start.true)
+
+pub returns-then-second-line : goal.returns-then-second-line
+returns-then-second-line c = item-more (field-at _ _ _ c.next_field-field.ensures (omega arith)).field (field-at _ _ _ c.next_field-second.ensures c.if-second-line.true).field
+
+pub slice_bounds-read_decimal-count : goal.slice_bounds-read_decimal-count
+slice_bounds-read_decimal-count c = (field-at _ _ _ c.next_field-field.ensures (omega arith)).ordered
+
+pub slice_bounds-read_decimal-start : goal.slice_bounds-read_decimal-start
+slice_bounds-read_decimal-start c = (field-at _ _ _ c.next_field-field.ensures (omega arith)).ordered
+
+pub slice_bounds-read_decimal-end : goal.slice_bounds-read_decimal-end
+slice_bounds-read_decimal-end c = (field-at _ _ _ c.next_field-field.ensures (omega arith)).within
+
+pub returns-in-Value : goal.returns-in-Value
+unfolding number_item
+returns-in-Value c =
+    item-one (field-at _ _ _ c.next_field-field.ensures (omega arith)).field (no_field _ _ _ c.next_field-second.ensures c.if-second-line.false) _ c.read_decimal.ensures c.in-Value.is
+
+pub returns-in-Bad : goal.returns-in-Bad
+unfolding number_item
+returns-in-Bad c =
+    item-one (field-at _ _ _ c.next_field-field.ensures (omega arith)).field (no_field _ _ _ c.next_field-second.ensures c.if-second-line.false) _ c.read_decimal.ensures c.in-Bad.is

@@ -1,0 +1,11 @@
+-- `shapes::stored_end` meets its contract. The loop's invariant: the place is at `from` or further on, and within the input.
+-- The measure is what is left of the input. Assumes nothing.
+use Prim.Native.Nat.{◌-◌, ◌≤◌}
+use lib.ListN.{length}
+use Rattle.shapes.proofs.stored_end.Given as goal
+
+abbrev pub invariant-loop-at : goal.invariant-loop-at
+invariant-loop-at l = (l.from ≤ l.at) × (l.at ≤ length l.input)
+
+abbrev pub decreases-loop-at : goal.decreases-loop-at
+decreases-loop-at l = length l.input - l.at
