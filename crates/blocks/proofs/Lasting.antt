@@ -12,7 +12,7 @@ use lib.IntN.{ℤ, pos, nat_abs}
 use Rattle.signed.specs.Signed.{same_z}
 use Rattle.signed.proofs.Sign.{same_z-true}
 use Rattle.text.proofs.Cases.{lt-or-ge}
-use Rattle.unit.specs.Time.{longest, capped}
+use Rattle.unit.specs.Time.{capped}
 use Rattle.unit.specs.declared.Rasters.{Rasters}
 use Rattle.unit.proofs.Exact.{capped-longer}
 use Rattle.shape.specs.declared.Edition.{Edition}

@@ -1,16 +1,16 @@
 -- What is marked of shapes is so, and stays so when one more is marked. Assumes nothing.
 use Prim.Native.Nat.{ℕ, ◌+◌, ◌*◌, ◌-◌, ◌≤◌, ◌<◌}
-use mathlib.Core.Bool.{true, false, true≢false}
+use mathlib.Core.Bool.{true, true≢false}
 use mathlib.Core.List.{List, []}
 use mathlib.Core.Logic.{⊎_elim}
-use mathlib.Core.Path.{◌≡◌, refl, sym, ap, ◌∙◌}
+use mathlib.Core.Path.{◌≡◌, refl, sym, ◌∙◌}
 use native.Mathlib.Omega.{arith}
 use lib.IntN.{ℤ, negsuc}
 use lib.ListN.{length, get_or, replicate, length-replicate, get_or-replicate, get_or-eq_default}
 use Rattle.text.proofs.Cases.{lt-or-ge}
 use Rattle.marks.specs.Marks.{is_marked, marked}
 use Rattle.marks.proofs.Bits.{marked-only, none-marked}
-use Rattle.tables.specs.Tables.{samples_at, samples_of}
+use Rattle.tables.specs.Tables.{samples_at}
 use Rattle.events.specs.Use.{all_unit, rises_from}
 use Rattle.events.specs.Inside.{samples_fit, asked_number, Known}
 use Rattle.events.specs.declared.Asked.{Asked}

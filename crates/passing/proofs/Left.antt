@@ -1,6 +1,6 @@
 -- Definitions, `extension` lines and shapes stand in their own sections alone: where a file stands elsewhere, no line belongs to one, and once such a
 -- section is left, no further line does. Assumes nothing.
-use Prim.Native.Nat.{ℕ, suc, min, ◌≤◌, ◌<◌}
+use Prim.Native.Nat.{ℕ, min, ◌≤◌}
 use mathlib.Core.Bool.{Bool, true, false, cond, not, true≢false}
 use mathlib.Core.List.{List, [], ◌∷◌}
 use mathlib.Core.Option.{Option, none, some}

@@ -1,11 +1,10 @@
 -- What is known of a line that is passed over and not at fault: the file stands where it stood, and the line gave a row by columns or nothing.
 -- Assumes nothing.
-use Prim.Native.Nat.{ℕ, zero, suc}
+use Prim.Native.Nat.{ℕ, suc}
 use mathlib.Core.Bool.{Bool, true, false, cond, true≢false}
 use mathlib.Core.List.{List, [], ◌∷◌}
 use mathlib.Core.Option.{Option, none, some}
-use mathlib.Core.Logic.{◌⊎◌, inl, inr}
-use mathlib.Core.Path.{◌≡◌, refl, sym, ap, ◌∙◌}
+use mathlib.Core.Path.{◌≡◌, refl, sym, ◌∙◌}
 use lib.IntN.{ℤ, pos}
 use lib.ListN.{get_or, set}
 use lib.Seq.{sets, get_or-set_other}
@@ -28,8 +27,7 @@ use Rattle.places.specs.declared.Lines.TheVariants.{None, Definitions, Rows, Sha
 use Rattle.places.specs.declared.Place.{Place}
 use Rattle.places.specs.declared.Place.TheVariants.{Start, Version, Section, Extensions, Head, Values, Signature}
 use Rattle.places.specs.declared.Fault.TheVariants.{Line}
-use Rattle.places.specs.declared.Found.{Found}
-use Rattle.places.specs.declared.Found.TheVariants.{Nothing, Row, Definition, Fault as FoundFault}
+use Rattle.places.specs.declared.Found.TheVariants.{Nothing, Row}
 use Rattle.places.specs.declared.State.{State}
 use Rattle.places.specs.declared.Stepped.{Stepped}
 use Rattle.file.specs.Whole.{is_fault}

@@ -1,11 +1,10 @@
 -- "each checked reference meets exactly one row": where no ID is met again in its class, and a row passes REFERENCE. Assumes nothing.
 use Prim.Native.Nat.{ℕ, ◌<◌, ◌≤◌}
-use mathlib.Core.Bool.{true, false, not}
+use mathlib.Core.Bool.{false}
 use mathlib.Core.List.{List}
 use mathlib.Core.Path.{◌≡◌}
 use native.Mathlib.Omega.{arith}
 use borrow.Author.Tests.{ltb-true, ltb-false, not-false}
-use lib.Dec.{ltb}
 use lib.IntN.{ℤ, pos}
 use Rattle.signed.specs.Signed.{same_z}
 use Rattle.shape.specs.declared.Edition.{Edition}

@@ -1,5 +1,5 @@
 -- What a section line answers, by the answers of the code's tests. Assumes nothing.
-use Prim.Native.Nat.{ℕ, ◌-◌}
+use Prim.Native.Nat.{ℕ}
 use mathlib.Core.Bool.{Bool, true, false, not, ◌&&◌}
 use mathlib.Core.Path.{◌≡◌, refl}
 use lib.ListN.{get_or}

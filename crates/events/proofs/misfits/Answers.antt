@@ -1,0 +1,6 @@
+-- `events::misfits` meets its contract: nothing is marked. Assumes nothing.
+use Rattle.events.proofs.Marking.{known_start}
+use Rattle.events.proofs.misfits.Goals as goal
+
+pub is_unfit-requires : goal.is_unfit-requires
+is_unfit-requires c = record { none_again = c.requires; known = known_start _ _ _ 1 }

@@ -1,0 +1,6 @@
+-- `grammar::read_line` meets its contract: a row at once where the file stands among rows, else as other lines are read. Assumes nothing.
+use Rattle.grammar.proofs.ReadLines.{read-row}
+use Rattle.grammar.proofs.read_line.Goals as goal
+
+pub returns-then-row : goal.returns-then-row
+returns-then-row c = read-row _ _ _ _ _ _ c.in-Section.is c.in-Rows.is _ c.line_row-row.ensures c.if-row.true _ c.gave-did.ensures

@@ -1,0 +1,6 @@
+-- `places::start` meets its contract. Assumes nothing.
+use mathlib.Core.Path.{refl}
+use Rattle.places.proofs.start.Goals as goal
+
+pub returns : goal.returns
+returns c = refl
