@@ -1,0 +1,12 @@
+-- `definitions::defines` meets its contract. Assumes nothing.
+use mathlib.Core.Path.{◌∙◌}
+use Rattle.grammar.specs.Definitions.{key_of}
+use Rattle.definitions.proofs.defines.Goals as goal
+
+pub returns-then-is_defined : goal.returns-then-is_defined
+unfolding key_of
+returns-then-is_defined c = c.same.ensures ∙ rw (← c.is_defined.ensures, c.if-is_defined.true, c.field.ensures)
+
+pub returns : goal.returns
+unfolding key_of
+returns c = rw (← c.is_defined.ensures, c.if-is_defined.false)

@@ -1,0 +1,13 @@
+-- `reader::ask_rules` meets its contract. The loop: the rules that are left answer what all of them answer (`RulesLeft`). Assumes nothing.
+use Prim.Native.Nat.{◌-◌}
+use Rattle.file.specs.Rows.{rows_of}
+use Rattle.rules.specs.Rules.{first_broken}
+use Rattle.answers.specs.declared.Answer.TheVariants.{Accepted}
+use Rattle.reader.proofs.Judging.{RulesLeft}
+use Rattle.reader.proofs.ask_rules.Given as goal
+
+abbrev pub invariant-loop-i : goal.invariant-loop-i
+invariant-loop-i l = RulesLeft (λ rule. first_broken rule l.edition l.rasters l.rows l.n l.samples) l.n (rows_of l.file) (Accepted l.n l.count) l.i
+
+abbrev pub decreases-loop-i : goal.decreases-loop-i
+decreases-loop-i l = 6 - l.i
