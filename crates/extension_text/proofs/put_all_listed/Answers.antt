@@ -1,0 +1,19 @@
+use Rattle.said.proofs.Saying.{lines_start, lines-length, lines-turn, lines_end}
+use native.Mathlib.Omega.{arith}
+use Prim.Native.Nat.{◌-◌}
+use Rattle.extension_text.proofs.put_all_listed.Goals as goal
+
+pub loop-k-init : goal.loop-k-init
+loop-k-init c = lines_start _ _ _ _ (omega arith) (omega arith)
+
+pub loop-k-smaller : goal.loop-k-smaller
+loop-k-smaller c = omega (arith, c.loop-k-test.true)
+
+pub loop-k-preserved : goal.loop-k-preserved
+loop-k-preserved c = lines-turn _ _ c.loop-k.invariant c.loop-k-test.true c.put_listed-place.ensures
+
+pub shape_of-out : goal.shape_of-out
+shape_of-out c = lines-length _ _ c.loop-k.invariant
+
+pub returns : goal.returns
+returns c = lines_end _ _ c.loop-k.invariant c.loop-k-test.false

@@ -1,0 +1,6 @@
+-- `pulseq::pulseq_definition` meets its contract. The spot is told (`definition-tells`). Assumes nothing.
+use Rattle.pulseq.proofs.Telling.{definition-tells}
+use Rattle.pulseq.proofs.pulseq_definition.Goals as goal
+
+pub returns : goal.returns
+returns c = definition-tells c.number-source.ensures c.start-start.ensures c.length-size.ensures c.tell.ensures c.definition_spot-spot.ensures

@@ -1,0 +1,11 @@
+-- `pulseq::pulseq_write` meets its contract. In an edition all comes from the contract of writing (`write-tells`); in none the output is cleared (`write-none`). Assumes nothing.
+use Rattle.output.proofs.Clear.{cleared-all}
+use Rattle.pulseq.proofs.Telling.{write-tells, write-none}
+use mathlib.Core.Path.{sym, ◌∙◌}
+use Rattle.pulseq.proofs.pulseq_write.Goals as goal
+
+pub returns-in-Known : goal.returns-in-Known
+returns-in-Known c = write-tells (sym c.edition_of.ensures ∙ c.in-Known.is) c.write-written.ensures c.number-number.ensures c.size-size.ensures c.tell.ensures
+
+pub returns-in-Unknown : goal.returns-in-Unknown
+returns-in-Unknown c = write-none (sym c.edition_of.ensures ∙ c.in-Unknown.is) (c.clear_bytes.ensures ∙ cleared-all 0 _) c.tell-in-Unknown.ensures
