@@ -23,7 +23,7 @@ use Rattle.said.specs.Said.{numbers_at, said_row, is_of_form, has_kind}
 use Rattle.extension_text.specs.Extensions.{has_listed}
 use Rattle.restated_laws.proofs.SectionBack.{back_row, such-none-of}
 use Rattle.restated_laws.proofs.ListedBack.{Listing, list-end, list-other, list-entry, list-extension, list-trigger, list-label}
-use Rattle.restated_laws.proofs.ShapeBack.{shape_row, shapes_given}
+use Rattle.restated_laws.proofs.ShapeBack.{behind_shape, shape_row, shapes_given}
 use Rattle.restated_laws.proofs.TextBack.{form_rows, ListedFrom, none-listed, some-listed}
 use Rattle.restated_rows.proofs.Sectioned.{Section, no_more, left_out, stands_here, given-section}
 use Rattle.restated_rows.proofs.Source.{Source, not-block, own-said}
@@ -115,7 +115,7 @@ module _ {e target : Edition} (raster : ℕ) {rows : List ℤ} {count : ℕ} {ce
   pub shapes-section : (samples : List ℤ) (st : State) (n k m : ℕ) → k + m ≤ count → Section (λ j. is_kind rows j (pos shape_kind)) Kept k m (shapes_given target rows samples st n k m)
   unfolding shapes_given
   shapes-section samples st n k zero h = no_more
-  shapes-section samples st n k (suc m) h = go (is_kind rows k (pos shape_kind)) refl (shapes-section samples _ _ (suc k) m (omega arith)) (shapes-section samples st n (suc k) m (omega arith))
+  shapes-section samples st n k (suc m) h = go (is_kind rows k (pos shape_kind)) refl (shapes-section samples (behind_shape st (nat_abs (number_at rows k 2))) _ (suc k) m (omega arith)) (shapes-section samples st n (suc k) m (omega arith))
     where
       go : (b : Bool) → is_kind rows k (pos shape_kind) ≡ b → {xs ys : List Placed} → Section (λ j. is_kind rows j (pos shape_kind)) Kept (suc k) m xs → Section (λ j. is_kind rows j (pos shape_kind)) Kept (suc k) m ys
           → Section (λ j. is_kind rows j (pos shape_kind)) Kept k (suc m) (cond b (record { line = n; cells = shape_row st (nat_abs (number_at rows k 1)) (nat_abs (number_at rows k 2)) } ∷ xs) ys)

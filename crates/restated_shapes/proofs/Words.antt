@@ -27,7 +27,7 @@ use Rattle.duplicates.specs.Again.{word_no, WordAgain}
 use Rattle.sayable.specs.Sayable.{is_kind}
 use Rattle.restated.specs.Text.{restated_text}
 use Rattle.restated_laws.proofs.ListedBack.{Listing, list-end, list-other, list-entry, list-extension, list-trigger, list-label}
-use Rattle.restated_laws.proofs.ShapeBack.{shapes_given}
+use Rattle.restated_laws.proofs.ShapeBack.{behind_shape, shapes_given}
 use Rattle.restated_laws.proofs.DefinedBack.{numbered}
 use Rattle.restated_laws.proofs.DefinedSection.{said_definitions}
 use Rattle.restated_laws.proofs.TextBack.{ListedFrom, none-listed, some-listed, delays_end, first-append, Readable}
@@ -169,7 +169,7 @@ shapes-no-code : (target : Edition) (rows samples : List ℤ) (st : State) (n k 
 unfolding shapes_given
 shapes-no-code target rows samples st n k zero = no_cells
 shapes-no-code target rows samples st n k (suc m) =
-    go (is_kind rows k (pos shape_kind)) _ (kind-no-code shape_kind _ refl) (shapes-no-code target rows samples _ _ (suc k) m) (shapes-no-code target rows samples st n (suc k) m)
+    go (is_kind rows k (pos shape_kind)) _ (kind-no-code shape_kind _ refl) (shapes-no-code target rows samples (behind_shape st (nat_abs (number_at rows k 2))) _ (suc k) m) (shapes-no-code target rows samples st n (suc k) m)
   where
     go : (b : Bool) (r : Placed) → NoCode r.cells → {rs ss : List Placed} → AllCells NoCode rs → AllCells NoCode ss → AllCells NoCode (cond b (r ∷ rs) ss)
     go true r p x y = more-cells p x
