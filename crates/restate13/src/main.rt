@@ -6,8 +6,7 @@ ghost use Rattle.io.specs.Counts.{IsPrefixLen};
 
 use shape::Edition;
 use std::fs;
-use std::io::Read;
-use std::rt::Files;
+use std::os::fd::AsRawFd;
 
 // The descriptors of standard input and output.
 const STDIN_FILENO: i32 = 0;
@@ -38,31 +37,12 @@ fn restate<'a>(file: &'a [u8], site: &'a [u8]) {
     show_refused(restated.number(), restated.line());
 }
 
-// Reads from a file until the buffer is full, the file ends or a read fails, and tells how many bytes stand in the buffer.
-fn read_full<F: Read>(file: &mut F, buffer: &mut [u8]) -> usize
-    ensures { IsPrefixLen result buffer.new }
-{
-    let mut done = 0;
-    while done < buffer.len() {
-        match file.read(&mut buffer[done..]) {
-            Ok(n) => {
-                if n == 0 {
-                    return done;
-                }
-                done += n;
-            }
-            Err(_) => return done,
-        }
-    }
-    done
-}
-
 // Reads the site's definitions, as many bytes as the buffer holds; none where there is no such file.
-fn read_site(files: &impl Files, buffer: &mut [u8]) -> usize
+fn read_site(rt: &HostRuntime, buffer: &mut [u8]) -> usize
     ensures { IsPrefixLen result buffer.new }
 {
-    match fs::open(files, "site.def") {
-        Ok(mut file) => read_full(&mut file, buffer),
+    match fs::open(rt, "site.def") {
+        Ok(file) => io::read_full(file.as_raw_fd(), buffer),
         Err(_) => 0,
     }
 }
