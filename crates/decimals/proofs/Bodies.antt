@@ -1,4 +1,5 @@
 -- From what the code joins, a mantissa and an exponent counted from 200 on, to the paper's decimal: form, kept pair, limits. Assumes nothing.
+use Rattle.std.proofs.Common.{None, Option, Some}
 use Prim.Native.Nat.{ℕ, ◌+◌, ◌-◌, ◌≤◌, ◌<◌}
 use mathlib.Core.List.{List}
 use mathlib.Core.Bool.{Bool, true, false, cond, ◌&&◌}
@@ -18,10 +19,6 @@ use Rattle.decimals.specs.Inside.{large, mantissa_of, power_of, pair_of, joined,
 use Rattle.numeral.specs.declared.Decimal.{Decimal}
 use Rattle.decimals.specs.declared.Mantissa.{Mantissa}
 use Rattle.decimals.specs.declared.Mantissa.TheVariants.{Value as MantissaValue, Bad as MantissaBad}
-use Rattle.numeral.specs.declared.Natural.{Natural}
-use Rattle.numeral.specs.declared.Natural.TheVariants.{Value as NaturalValue, Bad as NaturalBad}
-use Rattle.decimals.specs.declared.Number.{Number}
-use Rattle.decimals.specs.declared.Number.TheVariants.{Value, Bad}
 use Rattle.text.proofs.Cases.{true-or-false, lt-or-ge, eq-or-ne}
 use Rattle.numeral.proofs.Parts.{tail-part}
 use Rattle.decimals.proofs.Mantissas.{mantissa-inv}
@@ -41,8 +38,8 @@ exponent-is e s f z h =
 
 -- ---- A pair from a mantissa that is not 0 and has no trailing zero
 -- what is kept, if it is in the limits
-abbrev keeping : Decimal → Number
-keeping d = cond (in_limits d) (Value d) Bad
+abbrev keeping : Decimal → Option Decimal
+keeping d = cond (in_limits d) (Some d) None
 
 module _ (negative : Bool) (v s f z : ℕ) (e : ℤ) (h : e ≡ sub_ℕ s 200) (n : v ≡ 0 → ⊥) where
   abbrev the_kept : Decimal
@@ -52,7 +49,7 @@ module _ (negative : Bool) (v s f z : ℕ) (e : ℤ) (h : e ≡ sub_ℕ s 200) (
   unfolding in_limits
   limits = rw (size-signed negative v, exponent-is e s f z h, sub-abs (s + z) (200 + f))
 
-  pair-large : large ≤ v → keeping the_kept ≡ Bad
+  pair-large : large ≤ v → keeping the_kept ≡ None
   pair-large l = rw (limits, le-ltb v large l)
 
   pair-out : v < large → 99 < (s + z - (200 + f)) + (200 + f - (s + z)) → pair_of negative v (s + z - f) ≡ keeping the_kept
@@ -67,7 +64,7 @@ module _ (negative : Bool) (v s f z : ℕ) (e : ℤ) (h : e ≡ sub_ℕ s 200) (
   unfolding pair_of
   pair-in l i =
       rw (limits, lt-ltb v large l, le-leb _ 99 i, ne_eqb v 0 n, le-leb 101 (s + z - f) (omega arith), le-leb (s + z - f) 299 (omega arith))
-      (ap (λ (x : ℤ). Value (record { mantissa = signed_of negative v; exponent = x }))
+      (ap (λ (x : ℤ). Some (record { mantissa = signed_of negative v; exponent = x }))
       (sub_same (s + z - f) 200 (s + z) (200 + f) (omega arith) ∙ sym (exponent-is e s f z h)))
 
   pair_is : v < large → pair_of negative v (s + z - f) ≡ keeping the_kept
@@ -88,11 +85,11 @@ module _ (negative : Bool) (m : List ℕ) (x : ℤ) (s : ℕ) (h : x ≡ sub_ℕ
   abbrev the_kept₀ : Decimal
   the_kept₀ = kept negative n₀ (x -ℤ pos (length (fraction m)))
 
-  zero_is : n₀ ≡ 0 → joined negative (mantissa_of m) (NaturalValue s) ≡ keeping the_kept₀
+  zero_is : n₀ ≡ 0 → joined negative (mantissa_of m) (Some s) ≡ keeping the_kept₀
   unfolding mantissa_of joined pair_of kept in_limits
   zero_is e = rw (i, e, strip-nothing)
 
-  some_is : (n₀ ≡ 0 → ⊥) → joined negative (mantissa_of m) (NaturalValue s) ≡ keeping the_kept₀
+  some_is : (n₀ ≡ 0 → ⊥) → joined negative (mantissa_of m) (Some s) ≡ keeping the_kept₀
   unfolding mantissa_of joined kept
   some_is e =
       let t = strip_from n₀ 0 in
@@ -103,55 +100,55 @@ module _ (negative : Bool) (m : List ℕ) (x : ℤ) (s : ℕ) (h : x ≡ sub_ℕ
       rw (i, le-ltb t.v large l, ne_eqb n₀ 0 e) (sym (pair-large negative t.v s (length (fraction m)) t.zeros x h (λ q. omega arith) l)))
       (lt-or-ge t.v large)
 
-  joined_is : joined negative (mantissa_of m) (NaturalValue s) ≡ keeping the_kept₀
+  joined_is : joined negative (mantissa_of m) (Some s) ≡ keeping the_kept₀
   joined_is = ⊎_elim zero_is some_is (eq-or-ne n₀ 0)
 
-joined-none : (negative : Bool) (m : Mantissa) → joined negative m NaturalBad ≡ Bad
+joined-none : (negative : Bool) (m : Mantissa) → joined negative m None ≡ None
 unfolding joined
 joined-none negative (MantissaValue v z f e) = refl
 joined-none negative MantissaBad = refl
 
-joined-bad : (negative : Bool) (p : Natural) → joined negative MantissaBad p ≡ Bad
+joined-bad : (negative : Bool) (p : (Option ℕ)) → joined negative MantissaBad p ≡ None
 unfolding joined
 joined-bad negative p = refl
 
 pub body-decimal : (negative : Bool) (b : List ℕ)
-    → body_of negative b ≡ cond (is_unsigned b && in_limits (kept_of negative b)) (Value (kept_of negative b)) Bad
+    → body_of negative b ≡ cond (is_unsigned b && in_limits (kept_of negative b)) (Some (kept_of negative b)) None
 unfolding body_of is_unsigned kept_of
 body-decimal negative b =
     ⊎_elim (λ (i : is_mantissa (mantissa_part b) ≡ true). go (power_of (exponent_part b)) refl i)
     (λ (i : is_mantissa (mantissa_part b) ≡ false). rw (i, mantissa-bad (mantissa_part b) i) (joined-bad negative (power_of (exponent_part b))))
     (true-or-false (is_mantissa (mantissa_part b)))
   where
-    go : (p : Natural) → power_of (exponent_part b) ≡ p → is_mantissa (mantissa_part b) ≡ true
+    go : (p : (Option ℕ)) → power_of (exponent_part b) ≡ p → is_mantissa (mantissa_part b) ≡ true
         → joined negative (mantissa_of (mantissa_part b)) (power_of (exponent_part b))
-        ≡ cond (is_mantissa (mantissa_part b) && is_exponent (exponent_part b) && in_limits (kept_of negative b)) (Value (kept_of negative b)) Bad
-    go (NaturalValue s) e i =
+        ≡ cond (is_mantissa (mantissa_part b) && is_exponent (exponent_part b) && in_limits (kept_of negative b)) (Some (kept_of negative b)) None
+    go (Some s) e i =
         let w = power-inv (exponent_part b) s e in
         rw (e, w.form, i) (joined_is negative (mantissa_part b) (exponent_of (exponent_part b)) s w.worth i)
-    go NaturalBad e i = rw (e, i, power-bad (exponent_part b) e) (joined-none negative (mantissa_of (mantissa_part b)))
+    go None e i = rw (e, i, power-bad (exponent_part b) e) (joined-none negative (mantissa_of (mantissa_part b)))
 
 -- ---- By its parts, as the code cuts them: e is where the exponent starts
 module _ (negative : Bool) (s : List ℕ) (m : Mantissa) (p : m ≡ mantissa_of (mantissa_part s)) where
-  pub body-bad : m ≡ MantissaBad → Bad ≡ body_of negative s
+  pub body-bad : m ≡ MantissaBad → None ≡ body_of negative s
   unfolding body_of
   body-bad q = rw (← p, q) (sym (joined-bad negative (power_of (exponent_part s))))
 
-  module _ (v z f e : ℕ) (x : Natural) (q : m ≡ MantissaValue v z f e) (r : x ≡ power_of (take (length s - e) (drop e s))) where
+  module _ (v z f e : ℕ) (x : (Option ℕ)) (q : m ≡ MantissaValue v z f e) (r : x ≡ power_of (take (length s - e) (drop e s))) where
     body_is : joined negative (MantissaValue v z f e) x ≡ body_of negative s
     unfolding body_of exponent_part
     body_is = rw (← p, q, r, tail-part s e, (mantissa-inv (mantissa_part s) v z f e (sym p ∙ q)).1)
 
-    pub body-value : (n : ℕ) → x ≡ NaturalValue n → pair_of negative v (n + z - f) ≡ body_of negative s
+    pub body-value : (n : ℕ) → x ≡ Some n → pair_of negative v (n + z - f) ≡ body_of negative s
     unfolding joined
     body-value n h = rw h at body_is
 
-    pub body-none : x ≡ NaturalBad → Bad ≡ body_of negative s
+    pub body-none : x ≡ None → None ≡ body_of negative s
     unfolding joined
     body-none h = rw h at body_is
 
 -- ---- A field
-pub decimal-long : (s : List ℕ) → 32 < length s → Bad ≡ decimal_of s
+pub decimal-long : (s : List ℕ) → 32 < length s → None ≡ decimal_of s
 unfolding decimal_of
 decimal-long s h = rw (lt-leb (length s) 32 h)
 

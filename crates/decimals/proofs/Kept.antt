@@ -1,4 +1,5 @@
 -- What is read is kept in range and in normal form, so that equal pairs are equal values. Assumes nothing.
+use Rattle.std.proofs.Common.{None, Some}
 use Prim.Native.Nat.{ℕ, zero, suc, ◌+◌, ◌*◌, ◌/◌, ◌%◌, ◌^◌, ◌≤◌, ◌<◌}
 use mathlib.Core.List.{List}
 use mathlib.Core.Bool.{Bool, true, ◌&&◌}
@@ -17,7 +18,6 @@ use Rattle.numeral.specs.Digits.{is_minus, unsigned}
 use Rattle.decimals.specs.Decimal.{strip_from, kept, in_limits, is_unsigned, kept_of, decimal_of, same_decimal}
 use Rattle.numeral.specs.Kept.{nothing, Normal, Kept}
 use Rattle.numeral.specs.declared.Decimal.{Decimal}
-use Rattle.decimals.specs.declared.Number.TheVariants.{Value, Bad}
 use Rattle.text.proofs.Cases.{cond_yes, and_both, eq-or-ne}
 use Rattle.decimals.proofs.Zeros.{strip-more, strip-done}
 
@@ -35,17 +35,17 @@ kept-normal negative n e =
     (λ (h : n ≡ 0 → ⊥). rw (ne_eqb n 0 h) (inr (rw (size-signed negative (strip_from n 0).v) (strip-last n n 0 (omega arith) (omega arith)))))
     (eq-or-ne n 0)
 
-not-bad : (d : Decimal) → Bad ≡ Value d → ⊥
+not-bad : (d : Decimal) → None ≡ Some d → ⊥
 not-bad d e = let z : ◌≡◌ {A = ℕ} 0 1 = cc in omega arith
 
-value-is : (c d : Decimal) → Value c ≡ Value d → c ≡ d
+value-is : (c d : Decimal) → Some c ≡ Some d → c ≡ d
 value-is c d e = cc
 
-pub decimal-kept : (s : List ℕ) (d : Decimal) → decimal_of s ≡ Value d → Kept d
+pub decimal-kept : (s : List ℕ) (d : Decimal) → decimal_of s ≡ Some d → Kept d
 unfolding decimal_of kept_of in_limits
 decimal-kept s d e =
     let k = kept_of (is_minus s) (unsigned s) in
-    let a = cond_yes (leb (length s) 32 && is_unsigned (unsigned s) && in_limits k) (Value k) (not-bad d) e in
+    let a = cond_yes (leb (length s) 32 && is_unsigned (unsigned s) && in_limits k) (Some k) (not-bad d) e in
     let l = (and_both (leb (length s) 32 && is_unsigned (unsigned s)) (in_limits k) a.0).1 in
     let m = and_both (ltb (nat_abs k.mantissa) (10 ^ 18)) (leb (nat_abs k.exponent) 99) l in
     rw (← (value-is k d a.1))

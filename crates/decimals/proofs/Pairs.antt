@@ -1,4 +1,5 @@
 -- The answers of the functions that make or take a pair, in the words of the definitions. Assumes nothing.
+use Rattle.std.proofs.Common.{None, Some}
 use Prim.Native.Nat.{ℕ, ◌-◌, ◌≤◌, ◌<◌, min}
 use mathlib.Core.Bool.{Bool, true, false}
 use mathlib.Core.Path.{◌≡◌, ◌∙◌}
@@ -12,7 +13,6 @@ use Rattle.numeral.specs.declared.Decimal.{Decimal}
 use Rattle.numeral.proofs.Outcomes.{held-size}
 use Rattle.decimals.specs.Decimal.{same_decimal}
 use Rattle.decimals.specs.Inside.{pair_of}
-use Rattle.decimals.specs.declared.Number.TheVariants.{Value, Bad}
 
 -- ---- Counted from 200 on
 pub from-below : (s : ℕ) → s < 200 → signed_of true (min (200 - s) largest) ≡ sub_ℕ s 200
@@ -23,21 +23,21 @@ from-above s h k = held-size false (s - 200) (omega arith) ∙ signed_sub false 
 
 -- ---- A pair
 module _ (negative : Bool) (v s : ℕ) where
-  pub pair-zero : v ≡ 0 → Value (record { mantissa = pos 0; exponent = pos 0 }) ≡ pair_of negative v s
+  pub pair-zero : v ≡ 0 → Some (record { mantissa = pos 0; exponent = pos 0 }) ≡ pair_of negative v s
   unfolding pair_of
   pair-zero e = rw (eq-eqb v 0 e)
 
   module _ (n : v ≡ 0 → ⊥) where
-    pub pair-low : s < 101 → Bad ≡ pair_of negative v s
+    pub pair-low : s < 101 → None ≡ pair_of negative v s
     unfolding pair_of
     pair-low h = rw (ne_eqb v 0 n, lt-leb 101 s h)
 
-    pub pair-high : 101 ≤ s → 299 < s → Bad ≡ pair_of negative v s
+    pub pair-high : 101 ≤ s → 299 < s → None ≡ pair_of negative v s
     unfolding pair_of
     pair-high h k = rw (ne_eqb v 0 n, le-leb 101 s h, lt-leb s 299 k)
 
     pub pair-value : (m e : ℤ) → 101 ≤ s → s ≤ 299 → m ≡ signed_of negative v → e ≡ sub_ℕ s 200
-        → Value (record { mantissa = m; exponent = e }) ≡ pair_of negative v s
+        → Some (record { mantissa = m; exponent = e }) ≡ pair_of negative v s
     unfolding pair_of
     pair-value m e h k p q = rw (ne_eqb v 0 n, le-leb 101 s h, le-leb s 299 k, p, q)
 

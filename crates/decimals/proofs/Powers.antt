@@ -1,4 +1,5 @@
 -- Laws of the exponent, which the code counts from 200 on. Assumes nothing.
+use Rattle.std.proofs.Common.{None, Option, Some}
 use Prim.Native.Nat.{ℕ, ◌+◌, ◌-◌, ◌≤◌, ◌<◌}
 use mathlib.Core.List.{List, [], ◌∷◌}
 use mathlib.Core.Bool.{Bool, true, false, cond, ◌&&◌}
@@ -16,8 +17,6 @@ use Rattle.numeral.specs.Digits.{all_digits, value_of, is_minus, unsigned}
 use Rattle.numeral.specs.Integer.{integer_of}
 use Rattle.decimals.specs.Decimal.{is_exponent, exponent_of}
 use Rattle.decimals.specs.Inside.{biased, power_of}
-use Rattle.numeral.specs.declared.Natural.{Natural}
-use Rattle.numeral.specs.declared.Natural.TheVariants.{Value, Bad}
 use Rattle.text.proofs.Cases.{and_both, true-or-false, cond_no}
 use Rattle.numeral.proofs.Integer.{not-bad, cond_value, integer-inv, integer-yes, integer-value, range-value, value-below}
 
@@ -26,10 +25,10 @@ use Rattle.numeral.proofs.Integer.{not-bad, cond_value, integer-inv, integer-yes
 abbrev pub is_short : List ℕ → Bool
 is_short d = leb 1 (length d) && leb (length d) 2 && all_digits d
 
-abbrev pub power_at : Bool → List ℕ → Natural
-power_at negative d = cond (is_short d) (Value (biased negative (value_of d))) Bad
+abbrev pub power_at : Bool → List ℕ → Option ℕ
+power_at negative d = cond (is_short d) (Some (biased negative (value_of d))) None
 
-pub power-none : (s : List ℕ) → length s ≡ 0 → Value 200 ≡ power_of s
+pub power-none : (s : List ℕ) → length s ≡ 0 → Some 200 ≡ power_of s
 unfolding power_of
 power-none [] e = refl
 power-none (b ∷ s) e = absurd (omega arith)
@@ -42,7 +41,7 @@ power-some (b ∷ s) t d h e f = rw (f, e)
 pub short-long : (d : List ℕ) → 2 < length d → is_short d ≡ false
 short-long d h = rw (le-leb 1 (length d) (omega arith), lt-leb (length d) 2 h)
 
-pub short-value : (d : List ℕ) (n : ℕ) → length d ≤ 2 → integer_of 0 99 d ≡ Value n → (is_short d ≡ true) × (value_of d ≡ n)
+pub short-value : (d : List ℕ) (n : ℕ) → length d ≤ 2 → integer_of 0 99 d ≡ Some n → (is_short d ≡ true) × (value_of d ≡ n)
 short-value d n h e =
     let i = integer-inv 0 99 d n e in
     (rw (le-leb 1 (length d) i.some, le-leb (length d) 2 h, i.all), i.worth)
@@ -54,7 +53,7 @@ short-most d e =
     let b = and_both (leb 1 (length d)) (leb (length d) 2) a.0 in
     omega (arith, value-below d 2 a.1 (leb-true (length d) 2 b.1))
 
-short-integer : (d : List ℕ) → is_short d ≡ true → integer_of 0 99 d ≡ Value (value_of d)
+short-integer : (d : List ℕ) → is_short d ≡ true → integer_of 0 99 d ≡ Some (value_of d)
 short-integer d e =
     let a = and_both (leb 1 (length d) && leb (length d) 2) (all_digits d) e in
     let b = and_both (leb 1 (length d)) (leb (length d) 2) a.0 in
@@ -62,7 +61,7 @@ short-integer d e =
     sym (range-value 0 99 (value_of d) (omega arith) (short-most d e)
     ∙ integer-value 0 99 d (integer-yes d (leb-true 1 (length d) b.0) (omega arith) a.1))
 
-pub short-bad : (d : List ℕ) → integer_of 0 99 d ≡ Bad → is_short d ≡ false
+pub short-bad : (d : List ℕ) → integer_of 0 99 d ≡ None → is_short d ≡ false
 short-bad d e =
     ⊎_elim (λ (t : is_short d ≡ true). absurd (not-bad (value_of d) (sym e ∙ short-integer d t))) (λ f. f) (true-or-false (is_short d))
 
@@ -83,7 +82,7 @@ unfolding biased
 biased-worth true n h = signed_sub true n ∙ sub_same 0 n (200 - n) 200 (omega arith)
 biased-worth false n h = signed_sub false n ∙ sub_same n 0 (200 + n) 200 (omega arith)
 
-pub power-inv : (s : List ℕ) (n : ℕ) → power_of s ≡ Value n → PowerIs s n
+pub power-inv : (s : List ℕ) (n : ℕ) → power_of s ≡ Some n → PowerIs s n
 unfolding power_of is_exponent exponent_of
 power-inv [] n e =
     let q : ◌≡◌ {A = ℕ} 200 n = cc in
@@ -100,7 +99,7 @@ power-inv (b ∷ t) n e =
       most = rw (← a.1) r.1;
     }
 
-pub power-bad : (s : List ℕ) → power_of s ≡ Bad → is_exponent s ≡ false
+pub power-bad : (s : List ℕ) → power_of s ≡ None → is_exponent s ≡ false
 unfolding power_of is_exponent
 power-bad [] e = absurd (not-bad 200 (sym e))
-power-bad (b ∷ t) e = cond_no (is_short (unsigned t)) Bad (λ h. not-bad (biased (is_minus t) (value_of (unsigned t))) (sym h)) e
+power-bad (b ∷ t) e = cond_no (is_short (unsigned t)) None (λ h. not-bad (biased (is_minus t) (value_of (unsigned t))) (sym h)) e

@@ -1,13 +1,11 @@
 -- Decimal fields. "Decimal: optional sign, digits with at most one point, at least one digit, optional e or E, optional sign, one or two
 -- digits; at most 32 bytes. Kept exactly as mantissa and exponent without trailing zeros; zero is 0 and 0, also from -0. Mantissa at most
 -- 18 digits, exponent -99 to 99."
-use Rattle.std.specs.Prelude.{ℕ, zero, suc, ◌+◌, ◌/◌, ◌%◌, ◌^◌, List, [], ◌∷◌, ◌++◌, Bool, true, cond, ◌&&◌, ◌||◌, eqb, leb, ltb, ℤ, pos, nat_abs, ◌+ℤ◌, ◌-ℤ◌, length, drop}
+use Rattle.std.specs.Prelude.{ℕ, zero, suc, ◌+◌, ◌/◌, ◌%◌, ◌^◌, List, [], ◌∷◌, ◌++◌, Bool, true, cond, ◌&&◌, ◌||◌, eqb, leb, ltb, ℤ, pos, nat_abs, ◌+ℤ◌, ◌-ℤ◌, length, drop, None, Option, Some}
 use Rattle.signed.specs.Signed.{same_z, signed_of}
 use Rattle.numeral.specs.Digits.{all_digits, value_of, is_minus, unsigned}
 use Rattle.decimals.specs.declared.Stripped.{Stripped}
 use Rattle.numeral.specs.declared.Decimal.{Decimal}
-use Rattle.decimals.specs.declared.Number.{Number}
-use Rattle.decimals.specs.declared.Number.TheVariants.{Value, Bad}
 
 -- what stands before the first of two bytes
 unfoldable pub up_to : ℕ → ℕ → List ℕ → List ℕ
@@ -72,11 +70,11 @@ unfoldable pub kept_of : Bool → List ℕ → Decimal
 kept_of negative b =
     kept negative (value_of (digits (mantissa_part b))) (exponent_of (exponent_part b) -ℤ pos (length (fraction (mantissa_part b))))
 
-unfoldable pub decimal_of : List ℕ → Number
+unfoldable pub decimal_of : List ℕ → Option Decimal
 decimal_of s =
     cond (leb (length s) 32 && is_unsigned (unsigned s) && in_limits (kept_of (is_minus s) (unsigned s)))
-    (Value (kept_of (is_minus s) (unsigned s)))
-    Bad
+    (Some (kept_of (is_minus s) (unsigned s)))
+    None
 
 -- ---- "Equality is of exact decimals." Kept pairs are in normal form, so equal pairs are equal values.
 unfoldable pub same_decimal : Decimal → Decimal → Bool

@@ -1,18 +1,15 @@
 -- What the inner functions answer. Nothing here needs to be believed: laws lead from these to the definitions of the other files.
-use Rattle.std.specs.Prelude.{ℕ, ◌+◌, ◌*◌, ◌-◌, ◌^◌, ◌<◌, ◌≤◌, List, [], ◌∷◌, Bool, cond, ◌&&◌, ◌||◌, eqb, leb, ltb, pos, length}
+use Rattle.numeral.specs.declared.Decimal.{Decimal}
+use Rattle.std.specs.Prelude.{ℕ, ◌+◌, ◌*◌, ◌-◌, ◌^◌, ◌<◌, ◌≤◌, List, [], ◌∷◌, Bool, cond, ◌&&◌, ◌||◌, eqb, leb, ltb, pos, length, None, Option, Some}
 use Rattle.std.proofs.Math.IntN.{sub_ℕ}
 use Rattle.signed.specs.Signed.{signed_of}
 use Rattle.numeral.specs.Digits.{is_digit, all_digits, value_of, is_minus, sign_len, unsigned}
-use Rattle.numeral.specs.declared.Natural.{Natural}
-use Rattle.numeral.specs.declared.Natural.TheVariants.{Value as NaturalValue, Bad as NaturalBad}
 use Rattle.decimals.specs.Decimal.{digits, fraction, is_mantissa, mantissa_part, exponent_part, strip_from}
 use Rattle.decimals.specs.declared.Gathered.{Gathered}
 use Rattle.decimals.specs.declared.Gathered.TheVariants.{Point, End, Bad as GatheredBad}
 use Rattle.decimals.specs.declared.Mantissa.{Mantissa}
 use Rattle.decimals.specs.declared.Mantissa.TheVariants.{Value as MantissaValue, Bad as MantissaBad}
 use Rattle.decimals.specs.declared.Sign.{Sign}
-use Rattle.decimals.specs.declared.Number.{Number}
-use Rattle.decimals.specs.declared.Number.TheVariants.{Value, Bad}
 
 -- ---- A sign in front
 unfoldable pub sign_of : List ℕ → Sign
@@ -57,27 +54,27 @@ Fit MantissaBad = Unit
 unfoldable pub biased : Bool → ℕ → ℕ
 biased negative n = cond negative (200 - n) (200 + n)
 
-unfoldable pub power_of : List ℕ → Natural
-power_of [] = NaturalValue 200
+unfoldable pub power_of : List ℕ → Option ℕ
+power_of [] = Some 200
 power_of (e ∷ t) =
     cond (leb 1 (length (unsigned t)) && leb (length (unsigned t)) 2 && all_digits (unsigned t))
-    (NaturalValue (biased (is_minus t) (value_of (unsigned t))))
-    NaturalBad
+    (Some (biased (is_minus t) (value_of (unsigned t))))
+    None
 
 -- ---- A sign, a mantissa and an exponent counted from 200 on, as a decimal
-unfoldable pub pair_of : Bool → ℕ → ℕ → Number
+unfoldable pub pair_of : Bool → ℕ → ℕ → Option Decimal
 pair_of negative v s =
-    cond (eqb v 0) (Value (record { mantissa = pos 0; exponent = pos 0 }))
-    (cond (leb 101 s && leb s 299) (Value (record { mantissa = signed_of negative v; exponent = sub_ℕ s 200 })) Bad)
+    cond (eqb v 0) (Some (record { mantissa = pos 0; exponent = pos 0 }))
+    (cond (leb 101 s && leb s 299) (Some (record { mantissa = signed_of negative v; exponent = sub_ℕ s 200 })) None)
 
 -- the same of a number of which f digits stand behind the point, with no exponent
-unfoldable pub pointed_of : Bool → ℕ → ℕ → Number
+unfoldable pub pointed_of : Bool → ℕ → ℕ → Option Decimal
 pointed_of negative v f = pair_of negative (strip_from v 0).v (200 + (strip_from v 0).zeros - f)
 
-unfoldable pub joined : Bool → Mantissa → Natural → Number
-joined negative (MantissaValue v z f e) (NaturalValue x) = pair_of negative v (x + z - f)
-joined negative (MantissaValue v z f e) NaturalBad = Bad
-joined negative MantissaBad x = Bad
+unfoldable pub joined : Bool → Mantissa → (Option ℕ) → Option Decimal
+joined negative (MantissaValue v z f e) (Some x) = pair_of negative v (x + z - f)
+joined negative (MantissaValue v z f e) None = None
+joined negative MantissaBad x = None
 
-unfoldable pub body_of : Bool → List ℕ → Number
+unfoldable pub body_of : Bool → List ℕ → Option Decimal
 body_of negative b = joined negative (mantissa_of (mantissa_part b)) (power_of (exponent_part b))

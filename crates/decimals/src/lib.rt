@@ -6,14 +6,7 @@ ghost use Rattle.std.proofs.Math.IntN.{sub_ℕ};
 ghost use Rattle.decimals.specs.Decimal.{mantissa_part, strip_from, decimal_of, same_decimal};
 ghost use Rattle.decimals.specs.Inside.{sign_of, stop_of, gather_of, large, bare_of, mantissa_of, Fit, power_of, pair_of, pointed_of, body_of};
 
-use numeral::{Decimal, Natural};
-
-// A decimal that was asked for, or none.
-#[derive(Clone, Copy)]
-pub enum Number {
-    Value(Decimal),
-    Bad,
-}
+use numeral::Decimal;
 
 // A number without its trailing zeros, and how many those were.
 #[derive(Clone, Copy)]
@@ -174,11 +167,11 @@ fn mantissa_in(s: &[u8]) -> Mantissa
 }
 
 // The exponent, counted from 200 on: nothing, or e, a sign or none, and one or two digits.
-fn power_in(s: &[u8]) -> Natural
+fn power_in(s: &[u8]) -> Option<u64>
     ensures { result ≡ power_of s.now }
 {
     if s.len() == 0 {
-        return Natural::Value(200);
+        return Some(200);
     }
     let t = &s[1..];
     let g = sign_of(t);
@@ -186,16 +179,16 @@ fn power_in(s: &[u8]) -> Natural
     let a = g.len;
     let d = &t[a..];
     if 2 < d.len() {
-        return Natural::Bad;
+        return None;
     }
     match numeral::read_integer(d, 0, 99) {
-        Natural::Value(n) => {
+        Some(n) => {
             if negative {
-                return Natural::Value(200 - n);
+                return Some(200 - n);
             }
-            Natural::Value(200 + n)
+            Some(200 + n)
         }
-        Natural::Bad => Natural::Bad,
+        None => None,
     }
 }
 
@@ -211,32 +204,32 @@ fn from_200(s: u64) -> i64
 }
 
 // A sign, a mantissa and an exponent counted from 200 on, as a decimal.
-fn pair(negative: bool, v: u64, s: u64) -> Number
+fn pair(negative: bool, v: u64, s: u64) -> Option<Decimal>
     requires { v < large }
     ensures { result ≡ pair_of negative v s }
 {
     if v == 0 {
-        return Number::Value(Decimal {
+        return Some(Decimal {
             mantissa: 0,
             exponent: 0,
         });
     }
     if s < 101 {
-        return Number::Bad;
+        return None;
     }
     if 299 < s {
-        return Number::Bad;
+        return None;
     }
     let m = signed::with_sign(negative, v);
     let e = from_200(s);
-    Number::Value(Decimal {
+    Some(Decimal {
         mantissa: m,
         exponent: e,
     })
 }
 
 // A number of which f digits stand behind the point, with no exponent, as a decimal.
-pub fn pointed(negative: bool, v: u64, f: usize) -> Number
+pub fn pointed(negative: bool, v: u64, f: usize) -> Option<Decimal>
     requires { (v < large) × (f ≤ 32) }
     ensures { result ≡ pointed_of negative v f }
 {
@@ -245,25 +238,25 @@ pub fn pointed(negative: bool, v: u64, f: usize) -> Number
 }
 
 // What stands behind the sign.
-fn body(negative: bool, s: &[u8]) -> Number
+fn body(negative: bool, s: &[u8]) -> Option<Decimal>
     requires { length s.now ≤ 32 }
     ensures { result ≡ body_of negative s.now }
 {
     match mantissa_in(s) {
         Mantissa::Value(v, z, f, e) => match power_in(&s[e..]) {
-            Natural::Value(n) => pair(negative, v, n + z - f),
-            Natural::Bad => Number::Bad,
+            Some(n) => pair(negative, v, n + z - f),
+            None => None,
         },
-        Mantissa::Bad => Number::Bad,
+        Mantissa::Bad => None,
     }
 }
 
 // A decimal field of at most 32 bytes.
-pub fn read_decimal(field: &[u8]) -> Number
+pub fn read_decimal(field: &[u8]) -> Option<Decimal>
     ensures { result ≡ decimal_of field.now }
 {
     if 32 < field.len() {
-        return Number::Bad;
+        return None;
     }
     let g = sign_of(field);
     let a = g.len;

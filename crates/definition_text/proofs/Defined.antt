@@ -1,4 +1,5 @@
 -- A line is a definition only where it keeps to LINE and has a value, and it is then no shorter than its key, a space and its value. Assumes nothing.
+use Rattle.std.proofs.Common.{None, Option, Some}
 use Prim.Native.Nat.{ℕ, suc, ◌+◌, ◌-◌, ◌≤◌, ◌<◌}
 use mathlib.Core.Bool.{Bool, true, false, cond, not, ◌&&◌, false≢true}
 use mathlib.Core.List.{List, [], ◌∷◌}
@@ -18,8 +19,6 @@ use Rattle.text.proofs.Cases.{lt-or-ge}
 use Rattle.text.proofs.Lines.{or_left}
 use Rattle.fields.specs.Fields.{ends_field, fields_of, body_len, trimmed, word_len, field_at}
 use Rattle.fields.proofs.Cut.{no_field, field-at, field-inside}
-use Rattle.numeral.specs.declared.Natural.{Natural}
-use Rattle.numeral.specs.declared.Natural.TheVariants.{Value as NaturalValue, Bad as NaturalBad}
 use Rattle.shape.specs.Stored.{item_of}
 use Rattle.shape.specs.declared.Item.{Item}
 use Rattle.shape.specs.declared.Item.TheVariants.{Value as ItemValue, Skipped, Bad as ItemBad}
@@ -32,7 +31,7 @@ use Rattle.places.specs.declared.Due.{Due}
 use Rattle.places.specs.declared.Due.TheVariants.{Major, Minor, Revision}
 use Rattle.places.specs.declared.Fault.TheVariants.{Line as LineFault, Version as VersionFault, Section as SectionFault, Field as FieldFault}
 use Rattle.places.specs.declared.Lines.{Lines}
-use Rattle.places.specs.declared.Lines.TheVariants.{None, Definitions, Rows, Shapes}
+use Rattle.places.specs.declared.Lines.TheVariants.{None as NoLines, Definitions, Rows, Shapes}
 use Rattle.places.specs.declared.Listed.{Listed}
 use Rattle.places.specs.declared.Listed.TheVariants.{Entries, Triggers, Labels, Unknown}
 use Rattle.places.specs.declared.Place.{Place}
@@ -82,15 +81,15 @@ module _ (st : State) where
   other-section k Values = other-enter k
   other-section k Signature = refl
 
-  other-version-row : (next : State) (v : Natural) → Other (version_row st next v)
+  other-version-row : (next : State) (v : (Option ℕ)) → Other (version_row st next v)
   unfolding version_row is_defined
-  other-version-row next (NaturalValue v) = refl
-  other-version-row next NaturalBad = refl
+  other-version-row next (Some v) = refl
+  other-version-row next None = refl
 
-  other-minor : (v : Natural) → Other (minor_row st v)
+  other-minor : (v : (Option ℕ)) → Other (minor_row st v)
   unfolding minor_row is_defined
-  other-minor (NaturalValue v) = refl
-  other-minor NaturalBad = refl
+  other-minor (Some v) = refl
+  other-minor None = refl
 
   other-version : (fields : List (List ℕ)) (due : Due) → Other (version_step st fields due)
   unfolding version_step
@@ -130,15 +129,15 @@ module _ (st : State) where
     unfolding extensions_step extension_step
     other-extensions fields listed = other-cond (is_extension fields) (extension_step st n fields) (listed_step st n fields listed) (other-extension _) (other-listed fields listed)
 
-    other-head : (v : Natural) → Other (head_row st n v)
+    other-head : (v : (Option ℕ)) → Other (head_row st n v)
     unfolding head_row is_defined
-    other-head (NaturalValue v) = refl
-    other-head NaturalBad = refl
+    other-head (Some v) = refl
+    other-head None = refl
 
-    other-count : (id : ℤ) (v : Natural) → Other (count_row st id n v)
+    other-count : (id : ℤ) (v : (Option ℕ)) → Other (count_row st id n v)
     unfolding count_row is_defined
-    other-count id (NaturalValue v) = refl
-    other-count id NaturalBad = refl
+    other-count id (Some v) = refl
+    other-count id None = refl
 
   other-value : (i : Item) → Other (value_row st i)
   unfolding value_row is_defined
@@ -153,7 +152,7 @@ Defines line = (breaks_line line ≡ false) × (is_definition line ≡ true)
 module _ (st : State) (n : ℕ) (line : List ℕ) where
   lines-define : (lines : Lines) → is_defined (lines_step st n line lines).found ≡ true → is_definition line ≡ true
   unfolding lines_step head_step definition_step is_defined
-  lines-define None e = absurd (false≢true e)
+  lines-define NoLines e = absurd (false≢true e)
   lines-define Definitions e = go (is_definition line) e
     where
       go : (b : Bool) → is_defined (cond b (defined_of st) (refused_of st FieldFault)).found ≡ true → b ≡ true

@@ -1,4 +1,6 @@
 -- What it means that BIG, MISSING, ROOM, SITE, DUPLICATE and RASTER are not answered. Assumes nothing.
+use Rattle.std.proofs.Common.{None, Option, Some}
+use Rattle.numeral.specs.declared.Decimal.{Decimal}
 use Prim.Native.Nat.{ℕ, zero, suc, ◌/◌, ◌^◌, ◌≤◌, ◌<◌}
 use mathlib.Core.Bool.{Bool, true, false, not, ◌||◌, true≢false}
 use mathlib.Core.List.{List, [], ◌∷◌}
@@ -12,10 +14,6 @@ use lib.ListN.{length}
 use Rattle.text.proofs.Cases.{true-or-false, eq-or-ne, or-none}
 use Rattle.decimals.specs.Decimal.{decimal_of}
 use Rattle.numeral.specs.Worth.{whole_of}
-use Rattle.numeral.specs.declared.Natural.{Natural}
-use Rattle.numeral.specs.declared.Natural.TheVariants.{Value as NaturalValue, Bad as NaturalBad}
-use Rattle.decimals.specs.declared.Number.{Number}
-use Rattle.decimals.specs.declared.Number.TheVariants.{Value as NumberValue, Bad as NumberBad}
 use Rattle.numeral.proofs.Outcomes.{whole-range}
 use Rattle.unit.specs.declared.Rasters.{Rasters}
 use Rattle.shape.specs.declared.Edition.{Edition}
@@ -144,13 +142,13 @@ raster-most : (text : List ℕ) → raster_of text ≤ 10 ^ 6
 unfolding raster_of worth_of whole_or0
 raster-most text = go (decimal_of text)
   where
-    worth : (n : Natural) → ((m : ℕ) → n ≡ NaturalValue m → m ≤ 10 ^ 6) → whole_or0 n ≤ 10 ^ 6
-    worth (NaturalValue m) f = f m refl
-    worth NaturalBad f = omega arith
+    worth : (n : (Option ℕ)) → ((m : ℕ) → n ≡ Some m → m ≤ 10 ^ 6) → whole_or0 n ≤ 10 ^ 6
+    worth (Some m) f = f m refl
+    worth None f = omega arith
 
-    go : (n : Number) → worth_of n ≤ 10 ^ 6
-    go (NumberValue d) = worth (whole_of d 9 1 1000000) (λ m e. (whole-range d 9 1 1000000 m e).1)
-    go NumberBad = omega arith
+    go : (n : (Option Decimal)) → worth_of n ≤ 10 ^ 6
+    go (Some d) = worth (whole_of d 9 1 1000000) (λ m e. (whole-range d 9 1 1000000 m e).1)
+    go None = omega arith
 
 pub rasters-in : (e : Edition) (file site : List ℕ) → RastersIn (rasters_of e file site)
 unfolding rasters_of

@@ -1,5 +1,6 @@
 -- The samples of a file: each shape expands exactly when none fails, and the lent samples then hold what the shapes expand to, sample for sample.
 -- Assumes nothing.
+use Rattle.std.proofs.Common.{None, Option, Some}
 use Prim.Native.Nat.{ℕ, zero, suc, ◌+◌, ◌-◌, ◌^◌, ◌≤◌, ◌<◌}
 use mathlib.Core.Bool.{Bool, true, false, cond, ◌&&◌, true≢false}
 use mathlib.Core.List.{List, [], ◌∷◌}
@@ -13,12 +14,8 @@ use lib.ListN.{length, get_or, take, drop, length-replicate}
 use lib.Seq.{get_or-take, get_or-drop, ext_get_or}
 use Rattle.text.specs.Lines.{lines_of}
 use Rattle.text.proofs.Cases.{lt-or-ge}
-use Rattle.signed.specs.declared.Sum.{Sum}
-use Rattle.signed.specs.declared.Sum.TheVariants.{Value as SumValue, Beyond}
 use Rattle.signed.proofs.Sign.{within-inv}
 use Rattle.numeral.specs.declared.Decimal.{Decimal}
-use Rattle.numeral.specs.declared.Signed.{Signed}
-use Rattle.numeral.specs.declared.Signed.TheVariants.{Value as SignedValue, Bad as SignedBad}
 use Rattle.numeral.specs.Worth.{rounded_of}
 use Rattle.shape.specs.Stored.{values_of, all_sound}
 use Rattle.shape.specs.Samples.{sum_to, add_of, is_plain}
@@ -175,22 +172,22 @@ front-in z zs h f (suc i) = f i
 none_in : SamplesIn []
 none_in i = omega arith
 
-abbrev is_value : Sum → Bool
-is_value (SumValue z) = true
-is_value Beyond = false
+abbrev is_value : (Option ℤ) → Bool
+is_value (Some z) = true
+is_value None = false
 
-sum-in : (s : ℤ) (r : Signed) (z : ℤ) → sum_to s r ≡ SumValue z → nat_abs z ≤ 10 ^ 17
+sum-in : (s : ℤ) (r : (Option ℤ)) (z : ℤ) → sum_to s r ≡ Some z → nat_abs z ≤ 10 ^ 17
 unfolding sum_to
-sum-in s (SignedValue v) z e = let w = within-inv (10 ^ 17) (s +ℤ v) z e in rw w.0 w.1
-sum-in s SignedBad z e = absurd (true≢false (sym (ap is_value e)))
+sum-in s (Some v) z e = let w = within-inv (10 ^ 17) (s +ℤ v) z e in rw w.0 w.1
+sum-in s None z e = absurd (true≢false (sym (ap is_value e)))
 
 then-in : (s : ℤ) (d : Decimal) (more : ℤ → Trace ℤ) → ((z : ℤ) → SamplesIn (samples_in (more z))) → SamplesIn (samples_in (then_sum (add_of s d) more))
 unfolding add_of then_sum samples_in
 then-in s d more h = go (sum_to s (rounded_of d)) refl
   where
-    go : (r : Sum) → sum_to s (rounded_of d) ≡ r → SamplesIn (samples_in (then_sum r more))
-    go (SumValue z) e = front-in z (samples_in (more z)) (sum-in s (rounded_of d) z e) (h z)
-    go Beyond e = none_in
+    go : (r : (Option ℤ)) → sum_to s (rounded_of d) ≡ r → SamplesIn (samples_in (then_sum r more))
+    go (Some z) e = front-in z (samples_in (more z)) (sum-in s (rounded_of d) z e) (h z)
+    go None e = none_in
 
 sums-in : (t : Trace Decimal) (s : ℤ) → SamplesIn (samples_in (sums_of s t))
 unfolding sums_of samples_in

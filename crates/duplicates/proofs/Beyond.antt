@@ -1,4 +1,5 @@
 -- Nothing is found behind the section of the words that are sought. Assumes nothing.
+use Rattle.std.proofs.Common.{None, Option, Some}
 use Prim.Native.Nat.{ℕ, suc, ◌≤◌, ◌<◌}
 use mathlib.Core.Bool.{Bool, true, false, cond}
 use mathlib.Core.List.{List, [], ◌∷◌, ◌++◌}
@@ -21,8 +22,6 @@ use Rattle.duplicates.specs.declared.Sort.{Sort}
 use Rattle.duplicates.specs.declared.Sort.TheVariants.{Key, Name}
 use Rattle.duplicates.specs.declared.Ahead.{Ahead}
 use Rattle.duplicates.specs.declared.Ahead.TheVariants.{Here, Names, Nowhere}
-use Rattle.duplicates.specs.declared.Once.{Once}
-use Rattle.duplicates.specs.declared.Once.TheVariants.{Nothing, Word as OnceWord}
 use Rattle.duplicates.specs.Words.{row_names, found_names, once_of, words_in, word_at, words_from, next_line}
 use Rattle.duplicates.specs.Inside.{names_word, section_with, is_left, words_ahead}
 use Rattle.duplicates.proofs.Naming.{naming-miss, no-next}
@@ -44,15 +43,15 @@ module _ (st : State) (sort : Sort) (own here : ℕ) (p : own ≡ section_with s
   sort-if-met n = rw p (left-if-met st (section_with sort) here q (λ e. n (e ∙ sym p)))
 
 -- ---- the section of the word that a line names; 0 if it names none
-abbrev once_section : Once → ℕ
-once_section Nothing = 0
-once_section (OnceWord sort) = section_with sort
+abbrev once_section : (Option Sort) → ℕ
+once_section None = 0
+once_section (Some sort) = section_with sort
 
 once-given : (r : Stepped) (k : ℕ) → 1 ≤ k → once_section (once_of r) ≡ k → given_section r ≡ k
 unfolding once_of given_section
 once-given r k some = by-found r.found (get_or r.cells 0 (pos 0))
   where
-    by_kind : (b c : Bool) → once_section (cond b (OnceWord Name) Nothing) ≡ k → cond b 8 (cond c 9 0) ≡ k
+    by_kind : (b c : Bool) → once_section (cond b (Some Name) None) ≡ k → cond b 8 (cond c 9 0) ≡ k
     by_kind true c e = e
     by_kind false c e = absurd (omega arith)
 
@@ -67,13 +66,13 @@ silent : (k : ℕ) → 2 ≤ k → (st : State) → (section_in st.place ≡ k �
 silent k h st a n line = let r = silent-line k h st a n line in (r.left, λ e. r.other (once-given (step_of st n line) k (omega arith) e))
 
 -- ---- a line that names no word of this section
-other-section : (line : List ℕ) (once : Once) (sort : Sort) (word : List ℕ) → (once_section once ≡ section_with sort → ⊥) → false ≡ names_word line once sort word
+other-section : (line : List ℕ) (once : (Option Sort)) (sort : Sort) (word : List ℕ) → (once_section once ≡ section_with sort → ⊥) → false ≡ names_word line once sort word
 unfolding names_word
-other-section line Nothing sort word n = refl
-other-section line (OnceWord Key) Key word n = absurd (n refl)
-other-section line (OnceWord Key) Name word n = refl
-other-section line (OnceWord Name) Key word n = refl
-other-section line (OnceWord Name) Name word n = absurd (n refl)
+other-section line None sort word n = refl
+other-section line (Some Key) Key word n = absurd (n refl)
+other-section line (Some Key) Name word n = refl
+other-section line (Some Name) Key word n = refl
+other-section line (Some Name) Name word n = absurd (n refl)
 
 -- ---- no line from there on
 none-beyond : (sort : Sort) (word : List ℕ) (st : State) (n : ℕ) (ls : List (List ℕ)) → Left (section_with sort) st → next_line sort word (words_from st n ls) ≡ 0
@@ -92,13 +91,13 @@ pub nothing-beyond : (sort : Sort) (word : List ℕ) (st : State) (n : ℕ) (ls 
 nothing-beyond sort word st n ls e = sym (none-beyond sort word st n ls (left_is st (section_with sort) e))
 
 -- ---- behind both sections no line names a word
-no-word : (once : Once) → (once_section once ≡ 2 → ⊥) → (once_section once ≡ 8 → ⊥) → once ≡ Nothing
-no-word Nothing a b = refl
-no-word (OnceWord Key) a b = absurd (a refl)
-no-word (OnceWord Name) a b = absurd (b refl)
+no-word : (once : (Option Sort)) → (once_section once ≡ 2 → ⊥) → (once_section once ≡ 8 → ⊥) → once ≡ None
+no-word None a b = refl
+no-word (Some Key) a b = absurd (a refl)
+no-word (Some Name) a b = absurd (b refl)
 
 -- nor does one behind the first where the file does not stand in the second
-pub between : (st : State) → Left 2 st → (section_in st.place ≡ 8 → ⊥) → (n : ℕ) (line : List ℕ) → Left 2 (step_of st n line).next × (once_of (step_of st n line) ≡ Nothing)
+pub between : (st : State) → Left 2 st → (section_in st.place ≡ 8 → ⊥) → (n : ℕ) (line : List ℕ) → Left 2 (step_of st n line).next × (once_of (step_of st n line) ≡ None)
 between st a away n line =
     let r = silent 2 (omega arith) st a.away n line in
     (r.0 a.met, no-word (once_of (step_of st n line)) r.1 (silent 8 (omega arith) st away n line).1)
@@ -110,7 +109,7 @@ no-more-words st n (l ∷ ls) a b =
     let r = between st a b.away n l in
     go (is_fault (step_of st n l).found) r.1 (no-more-words (step_of st n l).next (suc n) ls r.0 ((silent 8 (omega arith) st b.away n l).0 b.met))
   where
-    go : (f : Bool) → once_of (step_of st n l) ≡ Nothing → words_from (step_of st n l).next (suc n) ls ≡ []
+    go : (f : Bool) → once_of (step_of st n l) ≡ None → words_from (step_of st n l).next (suc n) ls ≡ []
         → cond f [] (words_in n l (once_of (step_of st n l)) ++ words_from (step_of st n l).next (suc n) ls) ≡ []
     go true p q = refl
     go false p q = rw (p, q)

@@ -1,4 +1,5 @@
 -- Words sought line by line. Assumes nothing.
+use Rattle.std.proofs.Common.{None, Option, Some}
 use Prim.Native.Nat.{ℕ}
 use mathlib.Core.Bool.{Bool, true, false, true≢false}
 use mathlib.Core.List.{List, [], ◌++◌}
@@ -12,17 +13,15 @@ use Rattle.places.specs.declared.Found.{Found}
 use Rattle.places.specs.declared.Stepped.{Stepped}
 use Rattle.duplicates.specs.declared.Sort.{Sort}
 use Rattle.duplicates.specs.declared.Sort.TheVariants.{Name}
-use Rattle.duplicates.specs.declared.Once.{Once}
-use Rattle.duplicates.specs.declared.Once.TheVariants.{Nothing, Word as OnceWord}
 use Rattle.duplicates.specs.Words.{Word, row_names, found_names, once_of, word_of, words_in, word_at, sort_number, is_same, next_line}
 use Rattle.duplicates.specs.Inside.{names_word}
 
 -- ---- what a line names
-pub names-extension : (kind : ℤ) → same_z kind (pos 8) ≡ true → OnceWord Name ≡ row_names kind
+pub names-extension : (kind : ℤ) → same_z kind (pos 8) ≡ true → Some Name ≡ row_names kind
 unfolding row_names
 names-extension kind e = rw e
 
-pub names-nothing : (kind : ℤ) → same_z kind (pos 8) ≡ false → Nothing ≡ row_names kind
+pub names-nothing : (kind : ℤ) → same_z kind (pos 8) ≡ false → None ≡ row_names kind
 unfolding row_names
 names-nothing kind e = rw e
 
@@ -31,12 +30,12 @@ unfolding once_of
 once-found s found e = rw e
 
 -- ---- whether a line names a word
-module _ (line : List ℕ) (once : Once) (sort : Sort) (word : List ℕ) where
-  pub no-word : once ≡ Nothing → false ≡ names_word line once sort word
+module _ (line : List ℕ) (once : (Option Sort)) (sort : Sort) (word : List ℕ) where
+  pub no-word : once ≡ None → false ≡ names_word line once sort word
   unfolding names_word
   no-word e = rw e
 
-  module _ (own : Sort) (e : once ≡ OnceWord own) where
+  module _ (own : Sort) (e : once ≡ Some own) where
     pub other-sort : (sort_number own ≡ sort_number sort → ⊥) → false ≡ names_word line once sort word
     unfolding names_word
     other-sort n = rw (e, ne_eqb (sort_number own) (sort_number sort) n)
@@ -47,15 +46,15 @@ module _ (line : List ℕ) (once : Once) (sort : Sort) (word : List ℕ) where
 
 -- ---- a line's word in front of others
 module _ (n : ℕ) (line : List ℕ) (rest : List Word) where
-  next-hit : (once : Once) (sort : Sort) (word : List ℕ) → names_word line once sort word ≡ true → n ≡ next_line sort word (words_in n line once ++ rest)
+  next-hit : (once : (Option Sort)) (sort : Sort) (word : List ℕ) → names_word line once sort word ≡ true → n ≡ next_line sort word (words_in n line once ++ rest)
   unfolding words_in names_word is_same next_line
-  next-hit Nothing sort word h = absurd (true≢false (sym h))
-  next-hit (OnceWord own) sort word h = rw h
+  next-hit None sort word h = absurd (true≢false (sym h))
+  next-hit (Some own) sort word h = rw h
 
-  next-miss : (once : Once) (sort : Sort) (word : List ℕ) → names_word line once sort word ≡ false → next_line sort word rest ≡ next_line sort word (words_in n line once ++ rest)
+  next-miss : (once : (Option Sort)) (sort : Sort) (word : List ℕ) → names_word line once sort word ≡ false → next_line sort word rest ≡ next_line sort word (words_in n line once ++ rest)
   unfolding words_in names_word is_same next_line
-  next-miss Nothing sort word h = refl
-  next-miss (OnceWord own) sort word h = rw h
+  next-miss None sort word h = refl
+  next-miss (Some own) sort word h = rw h
 
 module _ (n : ℕ) (line : List ℕ) (s : Stepped) where
   module _ (sort : Sort) (word : List ℕ) (b : Bool) (q : b ≡ names_word line (once_of s) sort word) (rest : List Word) where

@@ -1,5 +1,6 @@
 -- A line that is passed over names no word, so a walk that keeps words goes on behind it; and behind DEFINITIONS it goes on where EXTENSIONS begins.
 -- Assumes nothing.
+use Rattle.std.proofs.Common.{None}
 use Prim.Native.Nat.{ℕ, suc, ◌+◌, ◌-◌, ◌≤◌, ◌<◌}
 use mathlib.Core.Bool.{true, false}
 use mathlib.Core.List.{List}
@@ -32,7 +33,6 @@ use Rattle.file.specs.Marks.{walk_start, met_walk}
 use Rattle.file.proofs.Walking.{Within, within-turn}
 use Rattle.file.specs.declared.Walk.{Walk}
 use Rattle.duplicates.specs.declared.Sort.TheVariants.{Key, Name}
-use Rattle.duplicates.specs.declared.Once.TheVariants.{Nothing}
 use Rattle.duplicates.specs.Words.{row_names, found_names, once_of, words_of}
 use Rattle.duplicates.specs.Again.{FirstLine}
 use Rattle.duplicates.specs.Inside.{is_left, AskedAgain, in_part, word_line, no_word, same_word, word_number, any_word}
@@ -40,7 +40,7 @@ use Rattle.duplicates.proofs.Beyond.{between, nothing-named}
 use Rattle.duplicates.proofs.Parts.{walk_none, walk_end}
 use Rattle.duplicates.proofs.WordParts.{WordWalk, asks_nothing, word-turn}
 
-no_name : (form : Form) → row_names (pos (form_number form)) ≡ Nothing
+no_name : (form : Form) → row_names (pos (form_number form)) ≡ None
 unfolding row_names same_z
 no_name Block = refl
 no_name Rf = refl
@@ -51,11 +51,11 @@ no_name Delay = refl
 no_name Entry = refl
 no_name Trigger = refl
 
-no-word : (st : State) (s : Stepped) → Over st s → once_of s ≡ Nothing
+no-word : (st : State) (s : Stepped) → Over st s → once_of s ≡ None
 unfolding once_of found_names
 no-word st s o = go o.gave
   where
-    go : Gave s → found_names s.found (get_or s.cells 0 (pos 0)) ≡ Nothing
+    go : Gave s → found_names s.found (get_or s.cells 0 (pos 0)) ≡ None
     go (nothing e) = rw e
     go (columns form e k) = rw (e, k) (no_name form)
 
@@ -66,7 +66,7 @@ pub record SoundWalk (parts part : ℕ) (file start : List ℕ) (st : State) (at
 
 module _ {parts part : ℕ} {file start : List ℕ} {st : State} {at n : ℕ} {places : List ℕ} (w : SoundWalk parts part file start st at n places) (r : Line) (l : LineAt file at r) where
   -- a line that names no word
-  quiet-turn : once_of (step_of st n (take (r.stop - at) (drop at file))) ≡ Nothing → SoundWalk parts part file start (step_of st n (take (r.stop - at) (drop at file))).next r.next (n + 1) places
+  quiet-turn : once_of (step_of st n (take (r.stop - at) (drop at file))) ≡ None → SoundWalk parts part file start (step_of st n (take (r.stop - at) (drop at file))).next r.next (n + 1) places
   quiet-turn o =
       let line : List ℕ = take (r.stop - at) (drop at file) in
       let s : Stepped = step_of st n line in

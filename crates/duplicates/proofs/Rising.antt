@@ -1,8 +1,9 @@
 -- The lines of a file's words rise, and so do those of its rows. Assumes nothing.
+use Rattle.duplicates.specs.declared.Sort.{Sort}
+use Rattle.std.proofs.Common.{Option, None, Some}
 use Prim.Native.Nat.{ℕ, zero, suc, ◌<◌, ◌≤◌}
 use mathlib.Core.Bool.{Bool, true, false, cond}
 use mathlib.Core.List.{List, [], ◌∷◌, ◌++◌}
-use mathlib.Core.Option.{Option, none, some}
 use mathlib.Core.Path.{◌≡◌, refl}
 use native.Mathlib.Omega.{arith}
 use lib.Dec.{eqb}
@@ -14,8 +15,6 @@ use Rattle.text.specs.Marks.{mark_of, breaks_line}
 use Rattle.text.specs.declared.Mark.{Mark}
 use Rattle.text.specs.declared.Mark.TheVariants.{Blank, Comment, Section as SectionLine, Plain}
 use Rattle.numeral.specs.Integer.{largest_id}
-use Rattle.numeral.specs.declared.Natural.{Natural}
-use Rattle.numeral.specs.declared.Natural.TheVariants.{Value as NaturalValue, Bad as NaturalBad}
 use Rattle.shape.specs.Stored.{item_of}
 use Rattle.shape.specs.declared.Item.{Item}
 use Rattle.shape.specs.declared.Item.TheVariants.{Value as ItemValue, Skipped, Bad as ItemBad}
@@ -35,7 +34,7 @@ use Rattle.sections.specs.Version.{major_word, minor_word, revision_word, versio
 use Rattle.places.specs.declared.Due.{Due}
 use Rattle.places.specs.declared.Due.TheVariants.{Major, Minor, Revision}
 use Rattle.places.specs.declared.Lines.{Lines}
-use Rattle.places.specs.declared.Lines.TheVariants.{None, Definitions, Rows, Shapes}
+use Rattle.places.specs.declared.Lines.TheVariants.{None as NoLines, Definitions, Rows, Shapes}
 use Rattle.places.specs.declared.Listed.{Listed}
 use Rattle.places.specs.declared.Listed.TheVariants.{Entries, Triggers, Labels, Unknown}
 use Rattle.places.specs.declared.Place.{Place}
@@ -48,8 +47,6 @@ use Rattle.places.specs.declared.State.{State}
 use Rattle.places.specs.declared.Stepped.{Stepped}
 use Rattle.file.specs.Whole.{is_fault, is_row, gathered}
 use Rattle.file.specs.Rows.{Placed, row_at, rows_from, rows_of, line_of}
-use Rattle.duplicates.specs.declared.Once.{Once}
-use Rattle.duplicates.specs.declared.Once.TheVariants.{Nothing as NoWord, Word as OnceWord}
 use Rattle.duplicates.specs.Words.{Word, once_of, words_in, word_at, words_from, words_of}
 use Rattle.duplicates.specs.Inside.{word_line, row_line}
 
@@ -81,10 +78,10 @@ unfolding gathered word_at words_in
 words-from st n [] = no_more
 words-from st n (l ∷ ls) = go (is_fault (step_of st n l).found) (once_of (step_of st n l)) (words-from (step_of st n l).next (suc n) ls)
   where
-    go : (b : Bool) (o : Once) {ws : List Word} → Rising word_line (suc n) ws → Rising word_line n (cond b [] (words_in n l o ++ ws))
+    go : (b : Bool) (o : (Option Sort)) {ws : List Word} → Rising word_line (suc n) ws → Rising word_line n (cond b [] (words_in n l o ++ ws))
     go true o r = no_more
-    go false NoWord r = rising-from (omega arith) r
-    go false (OnceWord sort) r = let x : n ≤ n = omega arith in one_more x r
+    go false None r = rising-from (omega arith) r
+    go false (Some sort) r = let x : n ≤ n = omega arith in one_more x r
 
 pub words-rise : (file : List ℕ) → Rising word_line 1 (words_of file)
 unfolding words_of
@@ -226,21 +223,21 @@ module _ (st : State) (n : ℕ) (h : floor st.place n ≤ n) where
   on-section k Signature = on-refused SectionFault
 
   -- ---- VERSION
-  on-version : (next : State) → Plainly n next.place → (v : Natural) → Onward st n (version_row st next v)
+  on-version : (next : State) → Plainly n next.place → (v : (Option ℕ)) → Onward st n (version_row st next v)
   unfolding version_row
-  on-version next q (NaturalValue v) = on-went next q
-  on-version next q NaturalBad = on-refused VersionFault
+  on-version next q (Some v) = on-went next q
+  on-version next q None = on-refused VersionFault
 
-  on-minor : (v : Natural) → Onward st n (minor_row st v)
+  on-minor : (v : (Option ℕ)) → Onward st n (minor_row st v)
   unfolding minor_row
-  on-minor (NaturalValue v) = on-went (record { place = Version Revision; edition = edition_of v; seen = st.seen; samples = st.samples }) refl
-  on-minor NaturalBad = on-refused VersionFault
+  on-minor (Some v) = on-went (record { place = Version Revision; edition = edition_of v; seen = st.seen; samples = st.samples }) refl
+  on-minor None = on-refused VersionFault
 
   on-due : (fields : List (List ℕ)) (due : Due) → Onward st n (version_step st fields due)
   unfolding version_step
   on-due fields Major = on-version (moved_of st (Version Minor)) refl (word_number_of major_word 1 1 fields)
   on-due fields Minor = on-minor (word_number_of minor_word 3 4 fields)
-  on-due fields Revision = on-version (moved_of st (Section None)) refl (word_number_of revision_word 0 1 fields)
+  on-due fields Revision = on-version (moved_of st (Section NoLines)) refl (word_number_of revision_word 0 1 fields)
 
   -- ---- sections behind it
   on-definition : (line : List ℕ) → Onward st n (definition_step st line)
@@ -257,15 +254,15 @@ module _ (st : State) (n : ℕ) (h : floor st.place n ≤ n) where
   on_value Skipped = on-stay
   on_value ItemBad = on-refused FieldFault
 
-  on-head : (v : Natural) → Onward st n (head_row st n v)
+  on-head : (v : (Option ℕ)) → Onward st n (head_row st n v)
   unfolding head_row
-  on-head (NaturalValue id) = record { within = omega arith; later = h; row = λ e. absurd (nothing-row e) }
-  on-head NaturalBad = on-refused FieldFault
+  on-head (Some id) = record { within = omega arith; later = h; row = λ e. absurd (nothing-row e) }
+  on-head None = on-refused FieldFault
 
-  on-count : (z : ℤ) (m : ℕ) → st.place ≡ Head z m → (v : Natural) → Onward st n (count_row st z m v)
+  on-count : (z : ℤ) (m : ℕ) → st.place ≡ Head z m → (v : (Option ℕ)) → Onward st n (count_row st z m v)
   unfolding count_row counted_of
-  on-count z m q (NaturalValue num) = on-gave (counted_of st num) refl m (rw q (let x : m ≤ m = omega arith in x)) (rw q at h) _
-  on-count z m q NaturalBad = on-refused FieldFault
+  on-count z m q (Some num) = on-gave (counted_of st num) refl m (rw q (let x : m ≤ m = omega arith in x)) (rw q at h) _
+  on-count z m q None = on-refused FieldFault
 
   module _ (q : Plainly n st.place) where
     on_row : (form : Form) (fields : List (List ℕ)) → Onward st n (row_step st n form fields)
@@ -273,8 +270,8 @@ module _ (st : State) (n : ℕ) (h : floor st.place n ≤ n) where
     on_row form fields = go (row_from (columns_of st.edition form) fields)
       where
         go : (o : Option (List ℤ)) → Onward st n (given_row st n (row_is form o))
-        go none = on-refused FieldFault
-        go (some vs) = on-gave st q n h (omega arith) _
+        go None = on-refused FieldFault
+        go (Some vs) = on-gave st q n h (omega arith) _
 
     on-label : (increment : Bool) (l : HeadLine) → Onward st n (label_row st n increment l)
     unfolding label_row
@@ -305,7 +302,7 @@ module _ (st : State) (n : ℕ) (h : floor st.place n ≤ n) where
 
     on-lines : (line : List ℕ) (lines : Lines) → Onward st n (lines_step st n line lines)
     unfolding lines_step head_step
-    on-lines line None = on-refused VersionFault
+    on-lines line NoLines = on-refused VersionFault
     on-lines line Definitions = on-definition line
     on-lines line (Rows form) = on_row form (fields_of line)
     on-lines line Shapes = on-head (word_number_of shape_id_word 1 largest_id (fields_of line))

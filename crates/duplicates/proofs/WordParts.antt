@@ -1,4 +1,5 @@
 -- Words that lines name, kept part by part. Assumes nothing.
+use Rattle.std.proofs.Common.{None, Option, Some}
 use Prim.Native.Nat.{ℕ, ◌+◌, ◌-◌, ◌≤◌}
 use mathlib.Core.Bool.{Bool, true, false}
 use mathlib.Core.List.{List, ◌∷◌}
@@ -16,8 +17,6 @@ use Rattle.places.specs.declared.Stepped.{Stepped}
 use Rattle.grammar.specs.Steps.{step_of}
 use Rattle.file.specs.Whole.{is_fault}
 use Rattle.duplicates.specs.declared.Sort.{Sort}
-use Rattle.duplicates.specs.declared.Once.{Once}
-use Rattle.duplicates.specs.declared.Once.TheVariants.{Nothing, Word as OnceWord}
 use Rattle.duplicates.specs.Words.{Word, once_of, word_of, words_in, word_at, words_from, words_of, next_line, again_line}
 use Rattle.duplicates.specs.Again.{FirstLine}
 use Rattle.duplicates.specs.Inside.{AskedAgain, in_part, ask_first, keep_first, word_line, no_word, same_word, number_of, word_number, any_word, stood_before}
@@ -44,17 +43,17 @@ few_words : (n : ℕ) (line : List ℕ) (s : Stepped) → Few (word_at n line s)
 unfolding word_at words_in
 few_words n line s = go (once_of s)
   where
-    go : (o : Once) → Few (words_in n line o)
-    go Nothing = nothing
-    go (OnceWord sort) = single _
+    go : (o : (Option Sort)) → Few (words_in n line o)
+    go None = nothing
+    go (Some sort) = single _
 
 own_line : (n : ℕ) (line : List ℕ) (s : Stepped) (x : Word) (ys : List Word) → word_at n line s ≡ x ∷ ys → n ≡ x.line
 unfolding word_at words_in
 own_line n line s x ys = go (once_of s)
   where
-    go : (o : Once) → words_in n line o ≡ x ∷ ys → n ≡ x.line
-    go Nothing e = absurd (let z : ◌≡◌ {A = ℕ} 0 1 = cc in omega arith)
-    go (OnceWord sort) e = ap word_line (first-same e)
+    go : (o : (Option Sort)) → words_in n line o ≡ x ∷ ys → n ≡ x.line
+    go None e = absurd (let z : ◌≡◌ {A = ℕ} 0 1 = cc in omega arith)
+    go (Some sort) e = ap word_line (first-same e)
       where
         first-same : {a b : Word} {us vs : List Word} → a ∷ us ≡ b ∷ vs → a ≡ b
         first-same q = cc
@@ -72,11 +71,11 @@ module _ (n : ℕ) (line : List ℕ) (s : Stepped) (parts part : ℕ) (file plac
   abbrev keeps : List ℕ
   keeps = keep_first word_number (in_part word_number any_word parts part) places (word_at n line s)
 
-  pub asks_nothing : once_of s ≡ Nothing → (false ≡ asks) × (places ≡ keeps)
+  pub asks_nothing : once_of s ≡ None → (false ≡ asks) × (places ≡ keeps)
   unfolding word_at words_in ask_first keep_first
   asks_nothing e = (rw e, rw e)
 
-  module _ (sort : Sort) (e : once_of s ≡ OnceWord sort) (word : List ℕ) (p : word ≡ word_of line sort) (number : ℕ) (q : number ≡ number_of sort word) where
+  module _ (sort : Sort) (e : once_of s ≡ Some sort) (word : List ℕ) (p : word ≡ word_of line sort) (number : ℕ) (q : number ≡ number_of sort word) where
     pub asks-not : is_in number parts part ≡ false → (false ≡ asks) × (places ≡ keeps)
     unfolding word_at words_in ask_first keep_first
     asks-not o = (rw (e, ← p, ← q, o), rw (e, ← p, ← q, o))

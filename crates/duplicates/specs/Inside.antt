@@ -1,5 +1,5 @@
 -- What the inner functions answer. Nothing here needs to be believed: laws lead from these to the definitions of the other file.
-use Rattle.std.specs.Prelude.{ℕ, ◌<◌, Bool, true, false, cond, ◌&&◌, List, [], ◌∷◌, ◌≡◌, eqb, ltb, length, get_or}
+use Rattle.std.specs.Prelude.{ℕ, ◌<◌, Bool, true, false, cond, ◌&&◌, List, [], ◌∷◌, ◌≡◌, eqb, ltb, length, get_or, None, Option, Some}
 use Rattle.file.specs.Rows.{Placed}
 use Rattle.sets.specs.Sets.{kept_of, places_after, unless_new, is_in, mixed, mixed_all}
 use Rattle.text.specs.Words.{same_bytes}
@@ -9,14 +9,12 @@ use Rattle.duplicates.specs.declared.Sort.{Sort}
 use Rattle.duplicates.specs.declared.Sort.TheVariants.{Key, Name}
 use Rattle.duplicates.specs.declared.Ahead.{Ahead}
 use Rattle.duplicates.specs.declared.Ahead.TheVariants.{Here, Names, Nowhere}
-use Rattle.duplicates.specs.declared.Once.{Once}
-use Rattle.duplicates.specs.declared.Once.TheVariants.{Nothing, Word as OnceWord}
 use Rattle.duplicates.specs.Words.{Word, words_of, word_of, sort_number, is_same, next_line}
 
 -- does a line name this word?
-unfoldable pub names_word : List ℕ → Once → Sort → List ℕ → Bool
-names_word line Nothing sort word = false
-names_word line (OnceWord own) sort word = eqb (sort_number own) (sort_number sort) && same_bytes (word_of line own) word
+unfoldable pub names_word : List ℕ → (Option Sort) → Sort → List ℕ → Bool
+names_word line None sort word = false
+names_word line (Some own) sort word = eqb (sort_number own) (sort_number sort) && same_bytes (word_of line own) word
 
 -- ---- Keys stand in section 2, DEFINITIONS, and names in section 8, EXTENSIONS
 abbrev pub section_with : Sort → ℕ

@@ -1,6 +1,6 @@
 -- What may stand once in a file, and the first line at which something is met again. "DUPLICATE: an ID, type, extension name or definition key met
 -- again in its class".
-use Rattle.std.specs.Prelude.{ℕ, Bool, cond, ◌&&◌, List, [], ◌∷◌, eqb, ltb, ℤ, pos, get_or}
+use Rattle.std.specs.Prelude.{ℕ, Bool, cond, ◌&&◌, List, [], ◌∷◌, eqb, ltb, ℤ, pos, get_or, None, Option, Some}
 use Rattle.text.specs.Lines.{lines_of}
 use Rattle.fields.specs.Fields.{fields_of}
 use Rattle.text.specs.Words.{same_bytes}
@@ -17,20 +17,18 @@ use Rattle.file.specs.Rows.{rows_of, line_of}
 use Rattle.tables.specs.Tables.{first_again}
 use Rattle.duplicates.specs.declared.Sort.{Sort}
 use Rattle.duplicates.specs.declared.Sort.TheVariants.{Key, Name}
-use Rattle.duplicates.specs.declared.Once.{Once}
-use Rattle.duplicates.specs.declared.Once.TheVariants.{Nothing, Word as OnceWord}
 
 -- ---- What a line names: a definition its key, a line `extension NAME type` its name, whether that is known or not
-unfoldable pub row_names : ℤ → Once
-row_names kind = cond (same_z kind (pos extension_kind)) (OnceWord Name) Nothing
+unfoldable pub row_names : ℤ → Option Sort
+row_names kind = cond (same_z kind (pos extension_kind)) (Some Name) None
 
-unfoldable pub found_names : Found → ℤ → Once
-found_names FoundNothing kind = Nothing
+unfoldable pub found_names : Found → ℤ → Option Sort
+found_names FoundNothing kind = None
 found_names Row kind = row_names kind
-found_names Definition kind = OnceWord Key
-found_names (FoundFault fault) kind = Nothing
+found_names Definition kind = Some Key
+found_names (FoundFault fault) kind = None
 
-unfoldable pub once_of : Stepped → Once
+unfoldable pub once_of : Stepped → Option Sort
 once_of r = found_names r.found (get_or r.cells 0 (pos 0))
 
 -- the key is a definition's first field, the name the field behind `extension`
@@ -45,9 +43,9 @@ pub record Word : Type 0 where
   pub word : List ℕ
 
 -- one, or none where the line names nothing
-unfoldable pub words_in : ℕ → List ℕ → Once → List Word
-words_in n l Nothing = []
-words_in n l (OnceWord sort) = record { line = n; sort = sort; word = word_of l sort } ∷ []
+unfoldable pub words_in : ℕ → List ℕ → (Option Sort) → List Word
+words_in n l None = []
+words_in n l (Some sort) = record { line = n; sort = sort; word = word_of l sort } ∷ []
 
 unfoldable pub word_at : ℕ → List ℕ → Stepped → List Word
 word_at n l r = words_in n l (once_of r)

@@ -21,13 +21,6 @@ pub enum Sort {
     Name,
 }
 
-// What a line names that may stand once in a file.
-#[derive(Clone, Copy)]
-pub enum Once {
-    Nothing,
-    Word(Sort),
-}
-
 // Where the next word may stand: here, or only where EXTENSIONS begins, or nowhere.
 #[derive(Clone, Copy)]
 enum Ahead {
@@ -37,26 +30,26 @@ enum Ahead {
 }
 
 // What a row of this kind names.
-fn row_names(kind: i64) -> Once
+fn row_names(kind: i64) -> Option<Sort>
     ensures { result ≡ row_names kind }
 {
     if signed::same(kind, 8) {
-        return Once::Word(Sort::Name);
+        return Some(Sort::Name);
     }
-    Once::Nothing
+    None
 }
 
 // What a line names that gave this.
-fn once_of(did: Stepped) -> Once
+fn once_of(did: Stepped) -> Option<Sort>
     ensures { result ≡ once_of did }
 {
     let found = did.found;
     let kind = did.cells[0];
     match found {
-        Found::Nothing => Once::Nothing,
+        Found::Nothing => None,
         Found::Row => row_names(kind),
-        Found::Definition => Once::Word(Sort::Key),
-        Found::Fault(_) => Once::Nothing,
+        Found::Definition => Some(Sort::Key),
+        Found::Fault(_) => None,
     }
 }
 
@@ -85,8 +78,8 @@ fn names(line: &[u8], did: Stepped, sort: Sort, word: &[u8]) -> bool
     ensures { result ≡ names_word line.now (once_of did) sort word.now }
 {
     match once_of(did) {
-        Once::Nothing => false,
-        Once::Word(own) => {
+        None => false,
+        Some(own) => {
             if sort_number(own) == sort_number(sort) {
                 return text::same(word_of(line, own), word);
             }
@@ -220,8 +213,8 @@ fn names_again(
     ensures set_after { set.new ≡ keep_first word_number (in_part word_number any_word parts part) set.old (word_at n line.now did) }
 {
     match once_of(did) {
-        Once::Nothing => false,
-        Once::Word(sort) => {
+        None => false,
+        Some(sort) => {
             let word = word_of(line, sort);
             let number = number_of(sort, word);
             if sets::is_in(number, parts, part) {
@@ -290,8 +283,8 @@ fn word_count(did: Stepped) -> usize
     ensures { result ≤ 1 }
 {
     match once_of(did) {
-        Once::Nothing => 0,
-        Once::Word(_) => 1,
+        None => 0,
+        Some(_) => 1,
     }
 }
 
@@ -331,8 +324,8 @@ fn name_count(rows: &[i64], k: usize) -> usize
     ensures { result ≤ 1 }
 {
     match row_names(tables::number(rows, k, 0)) {
-        Once::Nothing => 0,
-        Once::Word(_) => 1,
+        None => 0,
+        Some(_) => 1,
     }
 }
 

@@ -1,4 +1,5 @@
 -- Times on rasters, by the answers of the code's tests. Assumes nothing.
+use Rattle.std.proofs.Common.{None, Option, Some}
 use Prim.Native.Nat.{ℕ, ◌*◌, ◌%◌}
 use mathlib.Core.Bool.{Bool, true, false, cond, not, ◌&&◌}
 use mathlib.Core.List.{List}
@@ -7,32 +8,30 @@ use lib.Dec.{eqb}
 use lib.IntN.{ℤ, pos, nat_abs}
 use Rattle.signed.specs.Signed.{same_z}
 use Rattle.unit.specs.Time.{capped, on_raster}
-use Rattle.unit.specs.declared.OnRaster.{OnRaster}
-use Rattle.unit.specs.declared.OnRaster.TheVariants.{Steps, Off}
 use Rattle.unit.specs.declared.RasterCount.{RasterCount}
 use Rattle.unit.specs.declared.Rasters.{Rasters}
 use Rattle.tables.specs.Tables.{number_at}
 use Rattle.events.specs.Align.{is_off, micros_off, trap_off, misaligned_at}
 
 -- ---- one time
-abbrev is_steps : OnRaster → Bool
-is_steps (Steps n) = true
-is_steps Off = false
+abbrev is_steps : (Option RasterCount) → Bool
+is_steps (Some n) = true
+is_steps None = false
 
-on-is : (b : Bool) (n : RasterCount) → is_steps (cond b (Steps n) Off) ≡ b
+on-is : (b : Bool) (n : RasterCount) → is_steps (cond b (Some n) None) ≡ b
 on-is true n = refl
 on-is false n = refl
 
-module _ (ns raster : ℕ) (r : OnRaster) (p : r ≡ on_raster ns raster) where
+module _ (ns raster : ℕ) (r : (Option RasterCount)) (p : r ≡ on_raster ns raster) where
   told : is_steps r ≡ (not (eqb raster 0) && eqb (ns % raster) 0)
   unfolding on_raster
   told = ap is_steps p ∙ on-is _ _
 
-  pub off-no : (n : RasterCount) → r ≡ Steps n → false ≡ is_off ns raster
+  pub off-no : (n : RasterCount) → r ≡ Some n → false ≡ is_off ns raster
   unfolding is_off
   off-no n e = ap not (sym (ap is_steps e) ∙ told)
 
-  pub off-yes : r ≡ Off → true ≡ is_off ns raster
+  pub off-yes : r ≡ None → true ≡ is_off ns raster
   unfolding is_off
   off-yes e = ap not (sym (ap is_steps e) ∙ told)
 

@@ -8,7 +8,7 @@ ghost use Rattle.events.specs.Use.{all_unit, follows_of, rises_from, time_fits, 
 ghost use Rattle.events.specs.Inside.{samples_fit, asked_number, Known};
 ghost use Rattle.events.specs.Align.{is_off, micros_off, trap_off, misaligned_at};
 
-use unit::{Micros, Nanos, OnRaster, Rasters};
+use unit::{Micros, Nanos, Rasters};
 
 // What is asked of the samples of a shape: that they lie in -1 to 1, or that they are times which rise.
 #[derive(Clone, Copy)]
@@ -306,8 +306,8 @@ fn off(time: Nanos, raster: Nanos) -> bool
     ensures { result ≡ is_off time.0 raster.0 }
 {
     match time.steps(raster) {
-        OnRaster::Steps(_) => false,
-        OnRaster::Off => true,
+        Some(_) => false,
+        None => true,
     }
 }
 

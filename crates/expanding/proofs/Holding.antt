@@ -1,4 +1,5 @@
 -- How many values lines hold, told by their marks alone: where no line is at fault, as many as are read; and the loop that counts. Assumes nothing.
+use Rattle.std.proofs.Common.{None, Option, Some}
 use Prim.Native.Nat.{ℕ, ◌+◌, ◌-◌, ◌≤◌}
 use mathlib.Core.Bool.{Bool, true, false, cond, false≢true}
 use mathlib.Core.List.{List, [], ◌∷◌}
@@ -13,18 +14,16 @@ use Rattle.text.specs.declared.Mark.TheVariants.{Blank, Comment, Section, Plain}
 use Rattle.text.proofs.Cases.{and_both}
 use Rattle.text.proofs.Cut.{LineAt}
 use Rattle.decimals.specs.Decimal.{decimal_of}
-use Rattle.decimals.specs.declared.Number.{Number}
-use Rattle.decimals.specs.declared.Number.TheVariants.{Value as NumberValue, Bad as NumberBad}
 use Rattle.numeral.specs.declared.Decimal.{Decimal}
 use Rattle.shape.specs.Stored.{number_item, fields_item, mark_item, item_of, is_sound, all_sound, with_item, values_in}
 use Rattle.shape.specs.declared.Item.TheVariants.{Bad}
 use Rattle.expanding.specs.Inside.{mark_holds, lines_hold}
 
 -- ---- One line that is not at fault
-number-holds : (n : Number) (ds : List Decimal) → is_sound (number_item n) ≡ true → 1 + length ds ≡ length (with_item (number_item n) ds)
+number-holds : (n : (Option Decimal)) (ds : List Decimal) → is_sound (number_item n) ≡ true → 1 + length ds ≡ length (with_item (number_item n) ds)
 unfolding number_item is_sound with_item
-number-holds (NumberValue d) ds e = omega arith
-number-holds NumberBad ds e = absurd (false≢true e)
+number-holds (Some d) ds e = omega arith
+number-holds None ds e = absurd (false≢true e)
 
 fields-hold : (fs : List (List ℕ)) (ds : List Decimal) → is_sound (fields_item fs) ≡ true → 1 + length ds ≡ length (with_item (fields_item fs) ds)
 unfolding fields_item is_sound

@@ -1,5 +1,6 @@
 -- Laws of samples laid over a table: what comes of them is the table with them in it, if they end well and are as many as declared. Assumes
 -- nothing.
+use Rattle.std.proofs.Common.{None, Option, Some}
 use Prim.Native.Nat.{ℕ, zero, suc, ◌+◌, ◌-◌, ◌≤◌, ◌<◌}
 use mathlib.Core.Bool.{Bool, true, false, cond, ◌&&◌}
 use mathlib.Core.List.{List, ◌∷◌}
@@ -14,20 +15,18 @@ use lib.IntN.{ℤ, pos}
 use lib.ListN.{length, set}
 use lib.Seq.{sets}
 use Rattle.text.proofs.Cases.{lt-or-ge}
-use Rattle.signed.specs.declared.Sum.{Sum}
-use Rattle.signed.specs.declared.Sum.TheVariants.{Value as SumValue, Beyond}
 use Rattle.numeral.specs.declared.Decimal.{Decimal}
 use Rattle.shape.specs.Samples.{add_of}
 use Rattle.expanding.specs.Expand.{Trace, done, fault, next, repeated, then_sum, sums_of, plain_of, samples_in, ends_well, expands_to}
 use Rattle.expanding.specs.Inside.{Verdict, good, bad, judged, soundly, told}
 
 -- ---- One sample, or none
-pub judged-next : (num : ℕ) (l : List ℤ) (at : ℕ) (r : Sum) (k : ℤ → Trace ℤ) (z : ℤ) → r ≡ SumValue z
+pub judged-next : (num : ℕ) (l : List ℤ) (at : ℕ) (r : (Option ℤ)) (k : ℤ → Trace ℤ) (z : ℤ) → r ≡ Some z
     → judged num l at (then_sum r k) ≡ judged num (set l at z) (at + 1) (k z)
 unfolding then_sum judged
 judged-next num l at r k z e = rw e
 
-pub judged-beyond : (num : ℕ) (l : List ℤ) (at : ℕ) (r : Sum) (k : ℤ → Trace ℤ) → r ≡ Beyond → judged num l at (then_sum r k) ≡ bad
+pub judged-beyond : (num : ℕ) (l : List ℤ) (at : ℕ) (r : (Option ℤ)) (k : ℤ → Trace ℤ) → r ≡ None → judged num l at (then_sum r k) ≡ bad
 unfolding then_sum judged
 judged-beyond num l at r k e = rw e
 
@@ -39,28 +38,28 @@ judged-over num l at fault h = refl
 judged-over num l at (next z t) h = judged-over num (set l at z) (at + 1) t (omega arith)
 
 -- one more where none is due
-pub judged-late : (num : ℕ) (l : List ℤ) (at : ℕ) (r : Sum) (k : ℤ → Trace ℤ) → num ≤ at → judged num l at (then_sum r k) ≡ bad
+pub judged-late : (num : ℕ) (l : List ℤ) (at : ℕ) (r : (Option ℤ)) (k : ℤ → Trace ℤ) → num ≤ at → judged num l at (then_sum r k) ≡ bad
 unfolding then_sum judged
-judged-late num l at (SumValue z) k h = judged-over num (set l at z) (at + 1) (k z) (omega arith)
-judged-late num l at Beyond k h = refl
+judged-late num l at (Some z) k h = judged-over num (set l at z) (at + 1) (k z) (omega arith)
+judged-late num l at None k h = refl
 
 -- ---- A fault at the end
 pub judged-fault : (num : ℕ) (l : List ℤ) (at : ℕ) (s : ℤ) (d : Decimal) → judged num l at (sums_of s (next d fault)) ≡ bad
 unfolding sums_of
 judged-fault num l at s d = go (add_of s d)
   where
-    go : (r : Sum) → judged num l at (then_sum r (λ z. sums_of z fault)) ≡ bad
-    go (SumValue z) = unfold then_sum judged sums_of in refl
-    go Beyond = unfold then_sum judged in refl
+    go : (r : (Option ℤ)) → judged num l at (then_sum r (λ z. sums_of z fault)) ≡ bad
+    go (Some z) = unfold then_sum judged sums_of in refl
+    go None = unfold then_sum judged in refl
 
 -- ---- A run
 module _ (num : ℕ) (l : List ℤ) (at : ℕ) (s : ℤ) (d : Decimal) (n : ℕ) (t : Trace Decimal) where
-  pub run_step : (z : ℤ) → add_of s d ≡ SumValue z
+  pub run_step : (z : ℤ) → add_of s d ≡ Some z
       → judged num l at (sums_of s (repeated (suc n) d t)) ≡ judged num (set l at z) (at + 1) (sums_of z (repeated n d t))
   unfolding repeated sums_of
   run_step z e = judged-next num l at (add_of s d) (λ y. sums_of y (repeated n d t)) z e
 
-  pub run-beyond : add_of s d ≡ Beyond → judged num l at (sums_of s (repeated (suc n) d t)) ≡ bad
+  pub run-beyond : add_of s d ≡ None → judged num l at (sums_of s (repeated (suc n) d t)) ≡ bad
   unfolding repeated sums_of
   run-beyond e = judged-beyond num l at (add_of s d) (λ y. sums_of y (repeated n d t)) e
 
@@ -77,18 +76,18 @@ run-over (suc n) num l at s d t h k =
     (λ (m : num ≤ at). run-late num l at s d n t m)
     (lt-or-ge at num)
   where
-    go : (r : Sum) → add_of s d ≡ r → ((z : ℤ) → judged num (set l at z) (at + 1) (sums_of z (repeated n d t)) ≡ bad)
+    go : (r : (Option ℤ)) → add_of s d ≡ r → ((z : ℤ) → judged num (set l at z) (at + 1) (sums_of z (repeated n d t)) ≡ bad)
         → judged num l at (sums_of s (repeated (suc n) d t)) ≡ bad
-    go (SumValue z) e f = run_step num l at s d n t z e ∙ f z
-    go Beyond e f = run-beyond num l at s d n t e
+    go (Some z) e f = run_step num l at s d n t z e ∙ f z
+    go None e f = run-beyond num l at s d n t e
 
 -- ---- Plain values
 module _ (num : ℕ) (l : List ℤ) (at : ℕ) (d : Decimal) (ds : List Decimal) where
-  pub plain_step : (z : ℤ) → add_of (pos 0) d ≡ SumValue z → judged num l at (plain_of (d ∷ ds)) ≡ judged num (set l at z) (at + 1) (plain_of ds)
+  pub plain_step : (z : ℤ) → add_of (pos 0) d ≡ Some z → judged num l at (plain_of (d ∷ ds)) ≡ judged num (set l at z) (at + 1) (plain_of ds)
   unfolding plain_of
   plain_step z e = judged-next num l at (add_of (pos 0) d) (λ y. plain_of ds) z e
 
-  pub plain-beyond : add_of (pos 0) d ≡ Beyond → judged num l at (plain_of (d ∷ ds)) ≡ bad
+  pub plain-beyond : add_of (pos 0) d ≡ None → judged num l at (plain_of (d ∷ ds)) ≡ bad
   unfolding plain_of
   plain-beyond e = judged-beyond num l at (add_of (pos 0) d) (λ y. plain_of ds) e
 

@@ -1,4 +1,5 @@
 -- Moves from state to state: one law for each way through the functions that take values, and how two moves make one. Assumes nothing.
+use Rattle.std.proofs.Common.{None, Option, Some}
 use Prim.Native.Nat.{ℕ, ◌+◌, ◌*◌, ◌≤◌, ◌<◌}
 use mathlib.Core.Bool.{true, false}
 use mathlib.Core.List.{List, [], ◌∷◌}
@@ -8,12 +9,9 @@ use native.Mathlib.Nat.{lt_trans}
 use native.Mathlib.Omega.{arith}
 use lib.IntN.{ℤ}
 use lib.ListN.{length}
-use Rattle.signed.specs.declared.Sum.{Sum}
-use Rattle.signed.specs.declared.Sum.TheVariants.{Value as SumValue, Beyond}
 use Rattle.decimals.specs.Decimal.{same_decimal}
 use Rattle.numeral.specs.Worth.{whole_of}
 use Rattle.numeral.specs.declared.Decimal.{Decimal}
-use Rattle.numeral.specs.declared.Natural.TheVariants.{Value as NaturalValue, Bad as NaturalBad}
 use Rattle.expanding.specs.Expand.{fault, next, repeated, counted, fresh_of, repeat_of, pair_of, sums_of}
 use Rattle.shape.specs.Stored.{values_at}
 use Rattle.expanding.specs.Inside.{Verdict, bad, sound_at, ValueAt, EndAt, judged, soundly, ran_to, Ran, resume, weight, Ready, Begun, Went, PairWent}
@@ -73,7 +71,7 @@ module _ (text : List ℕ) (num : ℕ) (l : List ℤ) (from at : ℕ) (sum : ℤ
     unfolding fresh_of repeated
     fresh-run ds = refl
 
-    pub fresh-value : {m : List ℤ} {r : Sum} (s : ℤ) → Ran num l m at 1 sum d r → r ≡ SumValue s → Went text num l m (Fresh from at sum d) (Repeat from (at + 1) s d)
+    pub fresh-value : {m : List ℤ} {r : (Option ℤ)} (s : ℤ) → Ran num l m at 1 sum d r → r ≡ Some s → Went text num l m (Fresh from at sum d) (Repeat from (at + 1) s d)
     unfolding resume weight Ready ran_to
     fresh-value s w e =
         record {
@@ -82,7 +80,7 @@ module _ (text : List ℕ) (num : ℕ) (l : List ℤ) (from at : ℕ) (sum : ℤ
           ready = w.fits s e;
         }
 
-    pub fresh-beyond : {m : List ℤ} {r : Sum} → Ran num l m at 1 sum d r → r ≡ Beyond → Went text num l m (Fresh from at sum d) Bad
+    pub fresh-beyond : {m : List ℤ} {r : (Option ℤ)} → Ran num l m at 1 sum d r → r ≡ None → Went text num l m (Fresh from at sum d) Bad
     unfolding resume weight Ready ran_to
     fresh-beyond w e =
         record {
@@ -140,21 +138,21 @@ module _ (text : List ℕ) (num : ℕ) (l : List ℤ) (from at : ℕ) (sum : ℤ
     pair-faulty e = record { same = rw e; less = omega arith; ready = tt }
 
     module _ (c : Decimal) (behind : ℕ) (v : ValueAt text from c behind) where
-      pair-bad : whole_of c 0 0 1000000 ≡ NaturalBad → pair_of d (values_at text from) ≡ fault
+      pair-bad : whole_of c 0 0 1000000 ≡ None → pair_of d (values_at text from) ≡ fault
       unfolding fresh_of counted
       pair-bad e = rw (v.values, e)
 
-      pub pair-uncounted : {m : List ℤ} → whole_of c 0 0 1000000 ≡ NaturalBad → PairWent text num l m from at sum d Bad
+      pub pair-uncounted : {m : List ℤ} → whole_of c 0 0 1000000 ≡ None → PairWent text num l m from at sum d Bad
       unfolding resume weight Ready
       pair-uncounted e =
           record { same = refused (rw (pair-bad e) (judged-fault num l at sum d)); less = omega arith; ready = tt }
 
-      pair-run : (n : ℕ) → whole_of c 0 0 1000000 ≡ NaturalValue n
+      pair-run : (n : ℕ) → whole_of c 0 0 1000000 ≡ Some n
           → next d (pair_of d (values_at text from)) ≡ repeated (n + 1) d (fresh_of (values_at text behind))
       unfolding fresh_of counted repeated
       pair-run n e = rw (v.values, add-one n, e)
 
-      pub pair-value : {m : List ℤ} {r : Sum} (n : ℕ) (s : ℤ) → whole_of c 0 0 1000000 ≡ NaturalValue n → Ran num l m at (n + 1) sum d r → r ≡ SumValue s
+      pub pair-value : {m : List ℤ} {r : (Option ℤ)} (n : ℕ) (s : ℤ) → whole_of c 0 0 1000000 ≡ Some n → Ran num l m at (n + 1) sum d r → r ≡ Some s
           → {q : State} → Begun text behind (at + (n + 1)) s q → PairWent text num l m from at sum d q
       unfolding ran_to
       pair-value {m} n s e w h b =
@@ -166,7 +164,7 @@ module _ (text : List ℕ) (num : ℕ) (l : List ℤ) (from at : ℕ) (sum : ℤ
             ready = b.ready num (w.fits s h);
           }
 
-      pub pair-beyond : {m : List ℤ} {r : Sum} (n : ℕ) → whole_of c 0 0 1000000 ≡ NaturalValue n → Ran num l m at (n + 1) sum d r → r ≡ Beyond
+      pub pair-beyond : {m : List ℤ} {r : (Option ℤ)} (n : ℕ) → whole_of c 0 0 1000000 ≡ Some n → Ran num l m at (n + 1) sum d r → r ≡ None
           → PairWent text num l m from at sum d Bad
       unfolding resume weight Ready ran_to
       pair-beyond n e w h =

@@ -1,12 +1,8 @@
 -- Stored values expanded into samples. Samples are counted in steps of 10^-12.
-use Rattle.std.specs.Prelude.{ℕ, zero, suc, Bool, true, false, cond, ◌&&◌, List, [], ◌∷◌, eqb, ℤ, pos, length}
-use Rattle.signed.specs.declared.Sum.{Sum}
-use Rattle.signed.specs.declared.Sum.TheVariants.{Value as SumValue, Beyond}
+use Rattle.std.specs.Prelude.{ℕ, zero, suc, Bool, true, false, cond, ◌&&◌, List, [], ◌∷◌, eqb, ℤ, pos, length, None, Option, Some}
 use Rattle.decimals.specs.Decimal.{same_decimal}
 use Rattle.numeral.specs.Worth.{whole_of}
 use Rattle.numeral.specs.declared.Decimal.{Decimal}
-use Rattle.numeral.specs.declared.Natural.{Natural}
-use Rattle.numeral.specs.declared.Natural.TheVariants.{Value as NaturalValue, Bad as NaturalBad}
 use Rattle.shape.specs.Samples.{add_of, is_plain}
 use Rattle.shape.specs.declared.Edition.{Edition}
 
@@ -23,9 +19,9 @@ unfoldable pub repeated : ℕ → Decimal → Trace Decimal → Trace Decimal
 repeated zero d t = t
 repeated (suc n) d t = next d (repeated n d t)
 
-unfoldable pub counted : Natural → Decimal → Trace Decimal → Trace Decimal
-counted (NaturalValue n) d t = repeated n d t
-counted NaturalBad d t = fault
+unfoldable pub counted : (Option ℕ) → Decimal → Trace Decimal → Trace Decimal
+counted (Some n) d t = repeated n d t
+counted None d t = fault
 
 unfoldable mutual
   pub fresh_of : List Decimal → Trace Decimal
@@ -43,9 +39,9 @@ unfoldable mutual
   pair_of d (c ∷ ds) = counted (whole_of c 0 0 1000000) d (fresh_of ds)
 
 -- ---- "Run-length samples are running sums"; a plain value is a sample by itself
-unfoldable pub then_sum : Sum → (ℤ → Trace ℤ) → Trace ℤ
-then_sum (SumValue z) k = next z (k z)
-then_sum Beyond k = fault
+unfoldable pub then_sum : (Option ℤ) → (ℤ → Trace ℤ) → Trace ℤ
+then_sum (Some z) k = next z (k z)
+then_sum None k = fault
 
 unfoldable pub sums_of : ℤ → Trace Decimal → Trace ℤ
 sums_of s done = done

@@ -1,15 +1,11 @@
 -- What the inner functions answer. Nothing here needs to be believed: laws lead from these to the definitions of the other files.
-use Rattle.std.specs.Prelude.{ℕ, ◌+◌, ◌*◌, ◌≤◌, ◌<◌, Bool, true, false, cond, List, [], ◌∷◌, ◌≡◌, eqb, ℤ, length, take, drop, set}
-use Rattle.signed.specs.declared.Sum.{Sum}
-use Rattle.signed.specs.declared.Sum.TheVariants.{Value as SumValue, Beyond}
+use Rattle.std.specs.Prelude.{ℕ, ◌+◌, ◌*◌, ◌≤◌, ◌<◌, Bool, true, false, cond, List, [], ◌∷◌, ◌≡◌, eqb, ℤ, length, take, drop, set, None, Option, Some}
 use Rattle.numeral.specs.declared.Decimal.{Decimal}
 use Rattle.text.specs.Lines.{lines_of}
 use Rattle.text.specs.Marks.{mark_of}
 use Rattle.text.specs.declared.Mark.{Mark}
 use Rattle.text.specs.declared.Mark.TheVariants.{Blank, Comment, Section, Plain}
 use Rattle.shape.specs.Stored.{all_sound, values_of, values_at}
-use Rattle.shape.specs.declared.Count.{Count}
-use Rattle.shape.specs.declared.Count.TheVariants.{Values, Faulty}
 use Rattle.expanding.specs.Expand.{Trace, done, fault, next, repeated, fresh_of, repeat_of, pair_of, sums_of, samples_in, expansion_of}
 use Rattle.expanding.specs.Alone.{expanded_of}
 use Rattle.shape.specs.declared.Edition.{Edition}
@@ -74,13 +70,13 @@ told true l = good l
 told false l = bad
 
 -- what comes of a run of n values, whatever follows
-unfoldable pub ran_to : ℕ → List ℤ → ℕ → Sum → Trace Decimal → Verdict
-ran_to num l at (SumValue s) t = judged num l at (sums_of s t)
-ran_to num l at Beyond t = bad
+unfoldable pub ran_to : ℕ → List ℤ → ℕ → (Option ℤ) → Trace Decimal → Verdict
+ran_to num l at (Some s) t = judged num l at (sums_of s t)
+ran_to num l at None t = bad
 
-pub record Ran (num : ℕ) (l m : List ℤ) (at n : ℕ) (sum : ℤ) (d : Decimal) (r : Sum) : Type 0 where
+pub record Ran (num : ℕ) (l m : List ℤ) (at n : ℕ) (sum : ℤ) (d : Decimal) (r : (Option ℤ)) : Type 0 where
   pub same : (t : Trace Decimal) → judged num l at (sums_of sum (repeated n d t)) ≡ ran_to num m (at + n) r t
-  pub fits : (s : ℤ) → r ≡ SumValue s → at + n ≤ num
+  pub fits : (s : ℤ) → r ≡ Some s → at + n ≤ num
 
 -- ---- What comes of a state
 unfoldable pub resume : List ℕ → ℕ → List ℤ → State → Verdict
@@ -124,9 +120,9 @@ pub record PairWent (text : List ℕ) (num : ℕ) (l m : List ℤ) (from at : �
   pub ready : Ready num r
 
 -- ---- Why lines are refused that were not laid, by their count
-unfoldable pub refusal_of : Count → Expanded
-refusal_of (Values n) = Shape
-refusal_of Faulty = Field
+unfoldable pub refusal_of : (Option ℕ) → Expanded
+refusal_of (Some n) = Shape
+refusal_of None = Field
 
 -- n samples zs, as many as declared, stand at the front of a table
 pub record Laid (n num : ℕ) (m : List ℤ) (zs : List ℤ) : Type 0 where

@@ -10,9 +10,8 @@ ghost use Rattle.expanding.specs.Expand.{plain_of, sums_of, fresh_of, trace_of};
 ghost use Rattle.expanding.specs.Alone.{Expansion};
 ghost use Rattle.expanding.specs.Inside.{mark_holds, lines_hold, NextIs, judged, soundly, told, Ran, Begun, Went, PairWent, refusal_of, LaidAll};
 
-use numeral::{Decimal, Natural};
-use shape::{Count, Edition, Expanded, Item};
-use signed::Sum;
+use numeral::Decimal;
+use shape::{Edition, Expanded, Item};
 use text::Mark;
 
 // The next value from a place on, with the place behind its line; or that there is none, or that a line in front of it is at fault.
@@ -114,28 +113,35 @@ fn store(samples: &mut [i64], at: usize, z: i64)
 }
 
 // Lays the samples of a value that stands n times, if so many are still due.
-fn lay_run(samples: &mut [i64], num: usize, at: usize, sum: i64, d: Decimal, n: usize) -> Sum
+fn lay_run(
+    samples: &mut [i64],
+    num: usize,
+    at: usize,
+    sum: i64,
+    d: Decimal,
+    n: usize,
+) -> Option<i64>
     requires { at ≤ num }
     ensures { Ran num samples.old samples.new at n sum d result }
 {
     if num - at < n {
-        return Sum::Beyond;
+        return None;
     }
     let mut s = sum;
     let mut k = 0;
     while k < n {
         match shape::add_value(s, d) {
-            Sum::Value(z) => {
+            Some(z) => {
                 store(samples, at + k, z);
                 s = z;
                 k += 1;
             }
-            Sum::Beyond => {
-                return Sum::Beyond;
+            None => {
+                return None;
             }
         }
     }
-    Sum::Value(s)
+    Some(s)
 }
 
 // Where the next value is fresh: that value, or the end, or a fault.
@@ -169,14 +175,14 @@ fn take_pair(
 {
     match next_value(stored, from) {
         Next::Value(c, behind) => match numeral::whole_worth(c, 0, 0, 1000000) {
-            Natural::Value(n) => {
+            Some(n) => {
                 let more = n as usize + 1;
                 match lay_run(samples, num, at, sum, d, more) {
-                    Sum::Value(s) => next_fresh(stored, behind, at + more, s),
-                    Sum::Beyond => State::Bad,
+                    Some(s) => next_fresh(stored, behind, at + more, s),
+                    None => State::Bad,
                 }
             }
-            Natural::Bad => State::Bad,
+            None => State::Bad,
         },
         Next::End => State::Bad,
         Next::Bad => State::Bad,
@@ -228,7 +234,7 @@ fn fresh(
     requires { at ≤ num }
     ensures { Went stored.now num samples.old samples.new (State.Fresh from at sum value) result }
 {
-    let Sum::Value(s) = lay_run(samples, num, at, sum, value, 1) else {
+    let Some(s) = lay_run(samples, num, at, sum, value, 1) else {
         return State::Bad;
     };
     let next = at + 1;
@@ -320,12 +326,12 @@ fn lay_plain(stored: &[u8], samples: &mut [i64], num: usize) -> bool
                     return false;
                 }
                 match shape::add_value(0, d) {
-                    Sum::Value(z) => {
+                    Some(z) => {
                         store(samples, at, z);
                         from = behind;
                         at += 1;
                     }
-                    Sum::Beyond => {
+                    None => {
                         return false;
                     }
                 }
@@ -355,8 +361,8 @@ fn refusal(stored: &[u8]) -> Expanded
     ensures { result ≡ refusal_of (count_of stored.now) }
 {
     match shape::count_values(stored) {
-        Count::Values(_) => Expanded::Shape,
-        Count::Faulty => Expanded::Field,
+        Some(_) => Expanded::Shape,
+        None => Expanded::Field,
     }
 }
 

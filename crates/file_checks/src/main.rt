@@ -9,7 +9,6 @@ ghost use Rattle.passing.specs.Sound.{sound_of};
 ghost use Rattle.tables.specs.Tables.{NoneAgain};
 
 use file::{Scanned, Walk};
-use numeral::Natural;
 use places::{Found, Stepped};
 use rules::Rule;
 use shape::Edition;
@@ -383,15 +382,15 @@ fn show<'a>(number: u64, file: &'a [u8], site: &'a [u8]) {
 }
 
 // What the k-th field of a line is worth as a count of bytes.
-fn read_count(line: &[u8], k: usize) -> Natural {
+fn read_count(line: &[u8], k: usize) -> Option<u64> {
     numeral::read_integer(fields::field(line, k), 0, 9999999999)
 }
 
 // Is there a count?
-fn is_count(count: Natural) -> bool {
+fn is_count(count: Option<u64>) -> bool {
     match count {
-        Natural::Value(_) => true,
-        Natural::Bad => false,
+        Some(_) => true,
+        None => false,
     }
 }
 
@@ -409,8 +408,8 @@ fn is_head(line: &[u8]) -> bool {
 // How many bytes the k-th field of a head line says; 0 if it is no count.
 fn bytes_of(line: &[u8], k: usize) -> usize {
     match read_count(line, k) {
-        Natural::Value(n) => n as usize,
-        Natural::Bad => 0,
+        Some(n) => n as usize,
+        None => 0,
     }
 }
 

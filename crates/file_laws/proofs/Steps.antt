@@ -1,8 +1,8 @@
 -- The rows that lines give are in range, and the edition stays what VERSION says. Assumes nothing.
+use Rattle.std.proofs.Common.{Option, None, Some}
 use Prim.Native.Nat.{ℕ, ◌+◌, ◌≤◌, min}
 use mathlib.Core.Bool.{Bool, true, false, cond, true≢false}
 use mathlib.Core.List.{List, [], ◌∷◌}
-use mathlib.Core.Option.{Option, none, some}
 use mathlib.Core.Path.{◌≡◌, refl, sym, ◌∙◌}
 use native.Mathlib.Omega.{arith}
 use lib.Dec.{eqb}
@@ -14,8 +14,6 @@ use Rattle.text.specs.declared.Mark.{Mark}
 use Rattle.text.specs.declared.Mark.TheVariants.{Blank, Comment, Section as SectionLine, Plain}
 use Rattle.signed.specs.Signed.{same_z, largest}
 use Rattle.numeral.specs.Integer.{largest_id}
-use Rattle.numeral.specs.declared.Natural.{Natural}
-use Rattle.numeral.specs.declared.Natural.TheVariants.{Value as NaturalValue, Bad as NaturalBad}
 use Rattle.shape.specs.Stored.{item_of}
 use Rattle.shape.specs.declared.Item.{Item}
 use Rattle.shape.specs.declared.Item.TheVariants.{Value as ItemValue, Skipped, Bad as ItemBad}
@@ -42,7 +40,7 @@ use Rattle.file_laws.specs.Ranges.{RowIn, by-columns, extension, label, shape, i
 use Rattle.places.specs.declared.Due.{Due}
 use Rattle.places.specs.declared.Due.TheVariants.{Major, Minor, Revision}
 use Rattle.places.specs.declared.Lines.{Lines}
-use Rattle.places.specs.declared.Lines.TheVariants.{None, Definitions, Rows, Shapes}
+use Rattle.places.specs.declared.Lines.TheVariants.{None as NoLines, Definitions, Rows, Shapes}
 use Rattle.places.specs.declared.Listed.{Listed}
 use Rattle.places.specs.declared.Listed.TheVariants.{Entries, Triggers, Labels, Unknown}
 use Rattle.places.specs.declared.Place.{Place}
@@ -264,21 +262,21 @@ module _ (st : State) where
     fine-section k Signature q = fine-refused SectionFault
 
     -- ---- VERSION
-    fine-row : (next : State) → HeadIn next.place → is_past st.place ≡ false → next.samples ≡ st.samples → (v : Natural) → Fine st (version_row st next v)
+    fine-row : (next : State) → HeadIn next.place → is_past st.place ≡ false → next.samples ≡ st.samples → (v : (Option ℕ)) → Fine st (version_row st next v)
     unfolding version_row
-    fine-row next k q m (NaturalValue v) = fine_before next k q m
-    fine-row next k q m NaturalBad = fine-refused VersionFault
+    fine-row next k q m (Some v) = fine_before next k q m
+    fine-row next k q m None = fine-refused VersionFault
 
-    fine-minor : is_past st.place ≡ false → (v : Natural) → Fine st (minor_row st v)
+    fine-minor : is_past st.place ≡ false → (v : (Option ℕ)) → Fine st (minor_row st v)
     unfolding minor_row
-    fine-minor q (NaturalValue v) = fine_before (record { place = Version Revision; edition = edition_of v; seen = st.seen; samples = st.samples }) tt q refl
-    fine-minor q NaturalBad = fine-refused VersionFault
+    fine-minor q (Some v) = fine_before (record { place = Version Revision; edition = edition_of v; seen = st.seen; samples = st.samples }) tt q refl
+    fine-minor q None = fine-refused VersionFault
 
     fine-version : (fields : List (List ℕ)) (due : Due) → is_past st.place ≡ false → Fine st (version_step st fields due)
     unfolding version_step
     fine-version fields Major q = fine-row (moved_of st (Version Minor)) tt q refl (word_number_of major_word 1 1 fields)
     fine-version fields Minor q = fine-minor q (word_number_of minor_word 3 4 fields)
-    fine-version fields Revision q = fine-row (moved_of st (Section None)) tt q refl (word_number_of revision_word 0 1 fields)
+    fine-version fields Revision q = fine-row (moved_of st (Section NoLines)) tt q refl (word_number_of revision_word 0 1 fields)
 
     -- ---- sections behind it
     fine-definition : (line : List ℕ) → Fine st (definition_step st line)
@@ -301,8 +299,8 @@ module _ (st : State) where
       fine-rows n form fields = go (row_from (columns_of st.edition form) fields) refl
         where
           go : (o : Option (List ℤ)) → row_from (columns_of st.edition form) fields ≡ o → Fine st (given_row st n (row_is form o))
-          go none e = fine-refused FieldFault
-          go (some vs) e = fine-gave p st h refl p (omega arith) n (padded (form_number form) vs) (by-columns form vs (row-in-range (columns_of st.edition form) fields vs e))
+          go None e = fine-refused FieldFault
+          go (Some vs) e = fine-gave p st h refl p (omega arith) n (padded (form_number form) vs) (by-columns form vs (row-in-range (columns_of st.edition form) fields vs e))
               (stack-other st refl n (padded (form_number form) vs) (form-no-shape form vs (row_fits st.edition form (row-in-range (columns_of st.edition form) fields vs e))))
 
       fine-label : (n : ℕ) (increment : Bool) (fields : List (List ℕ)) → Fine st (label_step st n increment fields)
@@ -352,25 +350,25 @@ module _ (st : State) where
       unfolding head_step head_row is_past
       fine-head n fields = go (word_number_of shape_id_word 1 largest_id fields) refl
         where
-          go : (v : Natural) → word_number_of shape_id_word 1 largest_id fields ≡ v → Fine st (head_row st n v)
-          go (NaturalValue id) e =
+          go : (v : (Option ℕ)) → word_number_of shape_id_word 1 largest_id fields ≡ v → Fine st (head_row st n v)
+          go (Some id) e =
               let r = word-range shape_id_word 1 largest_id fields id e in
               fine-went (moved_of st (Head (pos id) n)) (record { id = id; same = refl; least = r.0; most = r.1 }) (λ e. refl) (λ e. refl) refl
-          go NaturalBad e = fine-refused FieldFault
+          go None e = fine-refused FieldFault
 
       fine-count : (z : ℤ) → IdIn z → (n : ℕ) (fields : List (List ℕ)) → Fine st (count_step st z n fields)
       unfolding count_step count_row counted_of is_past
       fine-count z i n fields = go (word_number_of num_samples_word 1 1000000 fields) refl
         where
-          go : (v : Natural) → word_number_of num_samples_word 1 1000000 fields ≡ v → Fine st (count_row st z n v)
-          go (NaturalValue num) e =
+          go : (v : (Option ℕ)) → word_number_of num_samples_word 1 1000000 fields ≡ v → Fine st (count_row st z n v)
+          go (Some num) e =
               let r = word-range num_samples_word 1 1000000 fields num e in
               fine-gave p (counted_of st num) tt refl refl (omega (arith, r.1)) n _ (rw i.same (shape i.id num (min st.samples largest) i.least i.most r.0 r.1 (omega arith))) (stack-shape (counted_of st num) z num refl r.1 n)
-          go NaturalBad e = fine-refused FieldFault
+          go None e = fine-refused FieldFault
 
       fine-lines : (n : ℕ) (line : List ℕ) (lines : Lines) → Fine st (lines_step st n line lines)
       unfolding lines_step
-      fine-lines n line None = fine-refused VersionFault
+      fine-lines n line NoLines = fine-refused VersionFault
       fine-lines n line Definitions = fine-definition line
       fine-lines n line (Rows form) = fine-rows n form (fields_of line)
       fine-lines n line Shapes = fine-head n (fields_of line)

@@ -1,4 +1,5 @@
 -- What a step answers, by the answers of the code's tests and readings. Assumes nothing.
+use Rattle.std.proofs.Common.{None, Option, Some}
 use Prim.Native.Nat.{ℕ, ◌+◌, ◌-◌, ◌≤◌, ◌<◌, min}
 use mathlib.Core.Bool.{Bool, true, false, cond}
 use mathlib.Core.List.{List, [], ◌∷◌}
@@ -12,8 +13,6 @@ use Rattle.text.specs.Marks.{mark_of, breaks_line}
 use Rattle.text.specs.Words.{same_bytes}
 use Rattle.signed.specs.Signed.{largest, signed_of}
 use Rattle.numeral.specs.Integer.{largest_id}
-use Rattle.numeral.specs.declared.Natural.{Natural}
-use Rattle.numeral.specs.declared.Natural.TheVariants.{Value as NaturalValue, Bad as NaturalBad}
 use Rattle.numeral.proofs.Outcomes.{held-size}
 use Rattle.columns.specs.Columns.{columns_of}
 use Rattle.columns.specs.Rows.{padded}
@@ -107,27 +106,27 @@ module _ (st : State) (n : ℕ) (fields : List (List ℕ)) (listed : Listed) whe
   names-none e = rw e
 
 -- ---- the head of a shape
-module _ (st : State) (n : ℕ) (fields : List (List ℕ)) (v : Natural) (p : v ≡ word_number_of shape_id_word 1 largest_id fields) where
-  pub head-went : (id : ℕ) → v ≡ NaturalValue id → (a : ℤ) → a ≡ signed_of false (min id largest) → (next : State) → next ≡ moved_of st (Head a n) → went_of next ≡ head_step st n fields
+module _ (st : State) (n : ℕ) (fields : List (List ℕ)) (v : (Option ℕ)) (p : v ≡ word_number_of shape_id_word 1 largest_id fields) where
+  pub head-went : (id : ℕ) → v ≡ Some id → (a : ℤ) → a ≡ signed_of false (min id largest) → (next : State) → next ≡ moved_of st (Head a n) → went_of next ≡ head_step st n fields
   unfolding head_step head_row
   head-went id e a i next q =
       let r = word-range shape_id_word 1 largest_id fields id (sym p ∙ e) in
       rw (← p, e, q, held id a (omega (arith, r.1)) i)
 
-  pub head-bad : v ≡ NaturalBad → refused_of st Field ≡ head_step st n fields
+  pub head-bad : v ≡ None → refused_of st Field ≡ head_step st n fields
   unfolding head_step head_row
   head-bad e = rw (← p, e)
 
-module _ (st : State) (id : ℤ) (n : ℕ) (fields : List (List ℕ)) (v : Natural) (p : v ≡ word_number_of num_samples_word 1 1000000 fields) where
-  pub count_small : (num : ℕ) → v ≡ NaturalValue num → num ≤ 1000000
+module _ (st : State) (id : ℤ) (n : ℕ) (fields : List (List ℕ)) (v : (Option ℕ)) (p : v ≡ word_number_of num_samples_word 1 1000000 fields) where
+  pub count_small : (num : ℕ) → v ≡ Some num → num ≤ 1000000
   count_small num e = (word-range num_samples_word 1 1000000 fields num (sym p ∙ e)).1
 
-  pub count-gave : (num : ℕ) → v ≡ NaturalValue num → (next : State) → next ≡ counted_of st num → (y a b : ℤ) → y ≡ id → a ≡ signed_of false (min num largest)
+  pub count-gave : (num : ℕ) → v ≡ Some num → (next : State) → next ≡ counted_of st num → (y a b : ℤ) → y ≡ id → a ≡ signed_of false (min num largest)
       → b ≡ signed_of false (min st.samples largest) → gave_of next n (four (pos 11) y a b (pos 0)) ≡ count_step st id n fields
   unfolding count_step count_row padded signed_of
   count-gave num e next q y a b h i j = let m = count_small num e in rw (← p, e, q, h, held num a (omega arith) i, j)
 
-  pub count-bad : v ≡ NaturalBad → refused_of st Field ≡ count_step st id n fields
+  pub count-bad : v ≡ None → refused_of st Field ≡ count_step st id n fields
   unfolding count_step count_row
   count-bad e = rw (← p, e)
 

@@ -1,5 +1,5 @@
 -- One line where a file stands. "Then 2 to 5 line by line: the first faulty line answers, with its lowest number."
-use Rattle.std.specs.Prelude.{ℕ, ◌+◌, min, Bool, true, false, cond, List, [], ◌∷◌, eqb, ℤ, pos, get_or, drop}
+use Rattle.std.specs.Prelude.{ℕ, ◌+◌, min, Bool, true, false, cond, List, [], ◌∷◌, eqb, ℤ, pos, get_or, drop, None, Option, Some}
 use Rattle.fields.specs.Fields.{fields_of}
 use Rattle.text.specs.Lines.{bare_of, line_at}
 use Rattle.text.specs.Marks.{mark_of, breaks_line}
@@ -8,8 +8,6 @@ use Rattle.text.specs.declared.Mark.{Mark}
 use Rattle.text.specs.declared.Mark.TheVariants.{Blank, Comment, Section as SectionLine, Plain}
 use Rattle.signed.specs.Signed.{largest}
 use Rattle.numeral.specs.Integer.{largest_id}
-use Rattle.numeral.specs.declared.Natural.{Natural}
-use Rattle.numeral.specs.declared.Natural.TheVariants.{Value as NaturalValue, Bad as NaturalBad}
 use Rattle.shape.specs.Stored.{item_of}
 use Rattle.shape.specs.declared.Item.{Item}
 use Rattle.shape.specs.declared.Item.TheVariants.{Value as ItemValue, Skipped, Bad as ItemBad}
@@ -26,7 +24,7 @@ use Rattle.heads.specs.declared.Head.TheVariants.{Label, Extension, Bad as HeadB
 use Rattle.grammar.specs.Definitions.{is_definition}
 use Rattle.grammar.specs.declared.Read.{Read}
 use Rattle.places.specs.declared.Lines.{Lines}
-use Rattle.places.specs.declared.Lines.TheVariants.{None, Definitions, Rows, Shapes}
+use Rattle.places.specs.declared.Lines.TheVariants.{None as NoLines, Definitions, Rows, Shapes}
 use Rattle.places.specs.declared.Listed.{Listed}
 use Rattle.places.specs.declared.Listed.TheVariants.{Entries, Triggers, Labels, Unknown}
 use Rattle.places.specs.declared.Place.{Place}
@@ -109,9 +107,9 @@ shape_id_word = 115 ∷ 104 ∷ 97 ∷ 112 ∷ 101 ∷ 95 ∷ 105 ∷ 100 ∷ []
 unfoldable pub num_samples_word : List ℕ
 num_samples_word = 110 ∷ 117 ∷ 109 ∷ 95 ∷ 115 ∷ 97 ∷ 109 ∷ 112 ∷ 108 ∷ 101 ∷ 115 ∷ []
 
-unfoldable pub head_row : State → ℕ → Natural → Stepped
-head_row st n (NaturalValue id) = went_of (moved_of st (Head (pos id) n))
-head_row st n NaturalBad = refused_of st FieldFault
+unfoldable pub head_row : State → ℕ → (Option ℕ) → Stepped
+head_row st n (Some id) = went_of (moved_of st (Head (pos id) n))
+head_row st n None = refused_of st FieldFault
 
 unfoldable pub head_step : State → ℕ → List (List ℕ) → Stepped
 head_step st n fields = head_row st n (word_number_of shape_id_word 1 largest_id fields)
@@ -120,9 +118,9 @@ head_step st n fields = head_row st n (word_number_of shape_id_word 1 largest_id
 unfoldable pub counted_of : State → ℕ → State
 counted_of st num = record { place = Values; edition = st.edition; seen = st.seen; samples = min (st.samples + num) largest }
 
-unfoldable pub count_row : State → ℤ → ℕ → Natural → Stepped
-count_row st id n (NaturalValue num) = gave_of (counted_of st num) n (padded shape_kind (id ∷ pos num ∷ pos (min st.samples largest) ∷ []))
-count_row st id n NaturalBad = refused_of st FieldFault
+unfoldable pub count_row : State → ℤ → ℕ → (Option ℕ) → Stepped
+count_row st id n (Some num) = gave_of (counted_of st num) n (padded shape_kind (id ∷ pos num ∷ pos (min st.samples largest) ∷ []))
+count_row st id n None = refused_of st FieldFault
 
 unfoldable pub count_step : State → ℤ → ℕ → List (List ℕ) → Stepped
 count_step st id n fields = count_row st id n (word_number_of num_samples_word 1 (most_of Count) fields)
@@ -134,7 +132,7 @@ value_row st ItemBad = refused_of st FieldFault
 
 -- ---- A line that is no comment, not blank and no section line
 unfoldable pub lines_step : State → ℕ → List ℕ → Lines → Stepped
-lines_step st n line None = refused_of st VersionFault
+lines_step st n line NoLines = refused_of st VersionFault
 lines_step st n line Definitions = definition_step st line
 lines_step st n line (Rows form) = row_step st n form (fields_of line)
 lines_step st n line Shapes = head_step st n (fields_of line)

@@ -11,7 +11,6 @@ ghost use Rattle.text.specs.Marks.{any_control, breaks_line, mark_of};
 use columns::Form;
 use fields::Part;
 use heads::Head;
-use numeral::Natural;
 use places::{Fault, Found, Lines, Listed, Place, State, Stepped};
 use shape::Item;
 use text::Mark;
@@ -191,11 +190,11 @@ fn head_step(st: State, n: usize, line: &[u8]) -> Stepped
     ensures { result ≡ head_step st n (fields_of line.now) }
 {
     match heads::read_word_number(line, b"shape_id", 1, LARGEST_ID) {
-        Natural::Value(id) => {
+        Some(id) => {
             let number = signed::with_sign(false, id);
             places::went(places::moved(st, Place::Head(number, n)))
         }
-        Natural::Bad => places::refused(st, Fault::Field),
+        None => places::refused(st, Fault::Field),
     }
 }
 
@@ -223,12 +222,12 @@ fn count_step(st: State, id: i64, n: usize, line: &[u8]) -> Stepped
     ensures { result ≡ count_step st id n (fields_of line.now) }
 {
     match heads::read_word_number(line, b"num_samples", 1, MOST_SAMPLES) {
-        Natural::Value(num) => {
+        Some(num) => {
             let place = signed::with_sign(false, st.samples);
             let size = signed::with_sign(false, num);
             gave_four(counted(st, num), n, 11, id, size, place, 0)
         }
-        Natural::Bad => places::refused(st, Fault::Field),
+        None => places::refused(st, Fault::Field),
     }
 }
 

@@ -1,4 +1,5 @@
 -- Worked examples, computed from the definitions. Assumes nothing.
+use Rattle.std.proofs.Common.{None, Some}
 use mathlib.Core.Bool.{true, false}
 use mathlib.Core.List.{[], ◌∷◌}
 use mathlib.Core.Path.{◌≡◌, refl}
@@ -10,7 +11,6 @@ use Rattle.text.specs.Words.{same_bytes, place_from}
 use Rattle.signed.specs.Signed.{signed_of}
 use Rattle.numeral.specs.Digits.{is_digit, all_digits, value_from, is_minus}
 use Rattle.numeral.specs.Integer.{in_range, is_integer, integer_of, signed_as, counter_of}
-use Rattle.numeral.specs.declared.Natural.TheVariants.{Value as NaturalValue, Bad as NaturalBad}
 use Rattle.shape.specs.declared.Edition.TheVariants.{V13, V14}
 use Rattle.heads.specs.Heads.{label_names, is_v14, set_value, increment_value, label_value, label_head, label_fields, label_of, is_name_byte, all_name_bytes, is_name, extension_names, extension_word, extension_head, extension_fields, extension_of, word_number_of}
 use Rattle.heads.specs.declared.Head.TheVariants.{Label, Extension, Bad}
@@ -44,10 +44,10 @@ unfolding onto is_blank ends_field fields_of same_bytes place_from is_digit all_
 unknown = refl
 
 -- id 12, of the word `id`, from 1 to 20; to 11 it is refused
-number : word_number_of (105 ∷ 100 ∷ []) 1 20 (fields_of (105 ∷ 100 ∷ 32 ∷ 49 ∷ 50 ∷ [])) ≡ NaturalValue 12
+number : word_number_of (105 ∷ 100 ∷ []) 1 20 (fields_of (105 ∷ 100 ∷ 32 ∷ 49 ∷ 50 ∷ [])) ≡ Some 12
 unfolding onto is_blank ends_field fields_of same_bytes is_digit all_digits value_from in_range is_integer integer_of word_number_of
 number = refl
 
-number-beyond : word_number_of (105 ∷ 100 ∷ []) 1 11 (fields_of (105 ∷ 100 ∷ 32 ∷ 49 ∷ 50 ∷ [])) ≡ NaturalBad
+number-beyond : word_number_of (105 ∷ 100 ∷ []) 1 11 (fields_of (105 ∷ 100 ∷ 32 ∷ 49 ∷ 50 ∷ [])) ≡ None
 unfolding onto is_blank ends_field fields_of same_bytes is_digit all_digits value_from in_range is_integer integer_of word_number_of
 number-beyond = refl

@@ -1,4 +1,5 @@
 -- The three forms, by the answers of the code's tests and readings. Assumes nothing.
+use Rattle.std.proofs.Common.{None, Option, Some}
 use Prim.Native.Nat.{ℕ, ◌≤◌}
 use mathlib.Core.Bool.{Bool, true, false, cond}
 use mathlib.Core.List.{List, [], ◌∷◌}
@@ -10,10 +11,6 @@ use lib.ListN.{length, get_or}
 use Rattle.text.specs.Words.{same_bytes, place_of}
 use Rattle.text.proofs.Counted.{two-of, three-of}
 use Rattle.numeral.specs.Integer.{largest_id, integer_of, signed_as, counter_of}
-use Rattle.numeral.specs.declared.Natural.{Natural}
-use Rattle.numeral.specs.declared.Natural.TheVariants.{Value as NaturalValue, Bad as NaturalBad}
-use Rattle.numeral.specs.declared.Signed.{Signed}
-use Rattle.numeral.specs.declared.Signed.TheVariants.{Value as SignedValue, Bad as SignedBad}
 use Rattle.shape.specs.declared.Edition.{Edition}
 use Rattle.shape.specs.declared.Edition.TheVariants.{V13, V14}
 use Rattle.heads.specs.Heads.{label_names, is_v14, set_value, increment_value, label_value, label_head, label_fields, label_of, is_name, extension_names, extension_word, extension_head, extension_fields, extension_of, word_number_of}
@@ -25,7 +22,7 @@ either true = refl
 either false = refl
 
 module _ (edition : Edition) (increment : Bool) (label : ℕ) (field : List ℕ) where
-  pub value-unknown : label ≡ 0 → SignedBad ≡ label_value edition increment label field
+  pub value-unknown : label ≡ 0 → None ≡ label_value edition increment label field
   unfolding label_value increment_value set_value
   value-unknown e = rw e (either increment)
 
@@ -34,7 +31,7 @@ module _ (edition : Edition) (increment : Bool) (label : ℕ) (field : List ℕ)
   value-counter h k = rw (le-leb 1 label h, le-leb label 9 k) (either increment)
 
   module _ (h : 10 ≤ label) where
-    pub value-increment : increment ≡ true → SignedBad ≡ label_value edition increment label field
+    pub value-increment : increment ≡ true → None ≡ label_value edition increment label field
     unfolding label_value increment_value
     value-increment e = rw (e, le-leb 1 label (omega arith), lt-leb label 9 h)
 
@@ -43,13 +40,13 @@ module _ (edition : Edition) (increment : Bool) (label : ℕ) (field : List ℕ)
       unfolding label_value set_value
       value-flag k = rw (e, le-leb 1 label (omega arith), lt-leb label 9 h, le-leb 10 label h, le-leb label 12 k)
 
-      pub value-beyond : 14 ≤ label → SignedBad ≡ label_value edition increment label field
+      pub value-beyond : 14 ≤ label → None ≡ label_value edition increment label field
       unfolding label_value set_value
       value-beyond k =
           rw (e, le-leb 1 label (omega arith), lt-leb label 9 h, le-leb 10 label h, lt-leb label 12 (omega arith), ne_eqb label 13 (λ (p : label ≡ 13). omega arith))
 
       module _ (l : label ≡ 13) where
-        pub value-early : edition ≡ V13 → SignedBad ≡ label_value edition increment label field
+        pub value-early : edition ≡ V13 → None ≡ label_value edition increment label field
         unfolding label_value set_value is_v14
         value-early v = rw (e, l, v)
 
@@ -58,17 +55,17 @@ module _ (edition : Edition) (increment : Bool) (label : ℕ) (field : List ℕ)
         value-once v = rw (e, l, v)
 
 -- ---- a label: n is what the ID was read as, v what the value was, label the name's place
-module _ (edition : Edition) (increment : Bool) (id value name : List ℕ) (n : Natural) (p : n ≡ integer_of 1 largest_id id) where
-  pub label-no-id : n ≡ NaturalBad → Bad ≡ label_fields edition increment id value name
+module _ (edition : Edition) (increment : Bool) (id value name : List ℕ) (n : (Option ℕ)) (p : n ≡ integer_of 1 largest_id id) where
+  pub label-no-id : n ≡ None → Bad ≡ label_fields edition increment id value name
   unfolding label_fields label_head
   label-no-id e = rw (← p, e)
 
-  module _ (label : ℕ) (k : label ≡ place_of label_names name) (v : Signed) (q : v ≡ label_value edition increment label value) (i : ℕ) (e : n ≡ NaturalValue i) where
-    pub label-no-value : v ≡ SignedBad → Bad ≡ label_fields edition increment id value name
+  module _ (label : ℕ) (k : label ≡ place_of label_names name) (v : (Option ℤ)) (q : v ≡ label_value edition increment label value) (i : ℕ) (e : n ≡ Some i) where
+    pub label-no-value : v ≡ None → Bad ≡ label_fields edition increment id value name
     unfolding label_fields label_head
     label-no-value f = rw (← k, ← p, ← q, e, f)
 
-    pub label-read : (z y : ℤ) → v ≡ SignedValue z → y ≡ z → Label i y label ≡ label_fields edition increment id value name
+    pub label-read : (z y : ℤ) → v ≡ Some z → y ≡ z → Label i y label ≡ label_fields edition increment id value name
     unfolding label_fields label_head
     label-read z y f g = rw (← k, ← p, ← q, e, f, g)
 
@@ -83,12 +80,12 @@ module _ (word name number : List ℕ) where
     unfolding extension_fields
     extension-unnamed f = rw (e, f)
 
-    module _ (f : is_name name ≡ true) (n : Natural) (p : n ≡ integer_of 1 largest_id number) where
-      pub extension-no-number : n ≡ NaturalBad → Bad ≡ extension_fields word name number
+    module _ (f : is_name name ≡ true) (n : (Option ℕ)) (p : n ≡ integer_of 1 largest_id number) where
+      pub extension-no-number : n ≡ None → Bad ≡ extension_fields word name number
       unfolding extension_fields extension_head
       extension-no-number g = rw (e, f, ← p, g)
 
-      pub extension-read : (type : ℕ) → n ≡ NaturalValue type → (code : ℕ) → code ≡ place_of extension_names name
+      pub extension-read : (type : ℕ) → n ≡ Some type → (code : ℕ) → code ≡ place_of extension_names name
           → Extension type code ≡ extension_fields word name number
       unfolding extension_fields extension_head
       extension-read type g code k = rw (e, f, ← p, g, ← k)
@@ -122,17 +119,17 @@ extension-other (f ∷ g ∷ h ∷ k ∷ fs) n = refl
 -- ---- a word and a number
 module _ (word : List ℕ) (low high : ℕ) where
   module _ (fs : List (List ℕ)) (n : length fs ≡ 2) (f : List ℕ) (p : f ≡ get_or fs 0 []) where
-    two : word_number_of word low high fs ≡ cond (same_bytes f word) (integer_of low high (get_or fs 1 [])) NaturalBad
+    two : word_number_of word low high fs ≡ cond (same_bytes f word) (integer_of low high (get_or fs 1 [])) None
     unfolding word_number_of
     two = ap (word_number_of word low high) (two-of [] fs n) ∙ rw p
 
-    pub number-other-word : same_bytes f word ≡ false → NaturalBad ≡ word_number_of word low high fs
+    pub number-other-word : same_bytes f word ≡ false → None ≡ word_number_of word low high fs
     number-other-word e = rw (two, e)
 
     pub number_read : same_bytes f word ≡ true → (g : List ℕ) → g ≡ get_or fs 1 [] → integer_of low high g ≡ word_number_of word low high fs
     number_read e g q = rw (two, e, q)
 
-  pub number-other : (fs : List (List ℕ)) → (length fs ≡ 2 → ⊥) → NaturalBad ≡ word_number_of word low high fs
+  pub number-other : (fs : List (List ℕ)) → (length fs ≡ 2 → ⊥) → None ≡ word_number_of word low high fs
   unfolding word_number_of
   number-other [] n = refl
   number-other (f ∷ []) n = refl

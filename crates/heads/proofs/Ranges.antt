@@ -1,4 +1,5 @@
 -- What a line that was read holds is in its range. Assumes nothing.
+use Rattle.std.proofs.Common.{None, Option, Some}
 use Prim.Native.Nat.{ℕ, ◌≤◌}
 use mathlib.Core.Bool.{Bool, true, false, cond, ◌&&◌}
 use mathlib.Core.List.{List, [], ◌∷◌}
@@ -13,10 +14,6 @@ use Rattle.text.proofs.Words.{place-le}
 use Rattle.signed.proofs.Sign.{size-signed}
 use Rattle.numeral.specs.Digits.{is_minus}
 use Rattle.numeral.specs.Integer.{largest_id, integer_of, signed_as, counter_of}
-use Rattle.numeral.specs.declared.Natural.{Natural}
-use Rattle.numeral.specs.declared.Natural.TheVariants.{Value as NaturalValue, Bad as NaturalBad}
-use Rattle.numeral.specs.declared.Signed.{Signed}
-use Rattle.numeral.specs.declared.Signed.TheVariants.{Value as SignedValue, Bad as SignedBad}
 use Rattle.numeral.proofs.Integer.{integer-inv}
 use Rattle.shape.specs.declared.Edition.{Edition}
 use Rattle.heads.specs.Heads.{label_names, is_v14, set_value, increment_value, label_value, label_head, label_fields, label_of, is_name, extension_names, extension_word, extension_head, extension_fields, extension_of, word_number_of}
@@ -33,19 +30,19 @@ unfolding extension_names
 code-most w = place-le extension_names w
 
 -- ---- a value's size
-abbrev Small : Signed → Type 0
-Small (SignedValue z) = nat_abs z ≤ largest_id
-Small SignedBad = Unit
+abbrev Small : (Option ℤ) → Type 0
+Small (Some z) = nat_abs z ≤ largest_id
+Small None = Unit
 
 small-as : (s : Bool) (most : ℕ) (field : List ℕ) → most ≤ largest_id → Small (signed_as s (integer_of 0 most field))
 unfolding signed_as
 small-as s most field h = go (integer_of 0 most field) refl
   where
-    go : (n : Natural) → integer_of 0 most field ≡ n → Small (signed_as s n)
-    go (NaturalValue n) e = let i = (integer-inv 0 most field n e).most in let a = size-signed s n in omega arith
-    go NaturalBad e = tt
+    go : (n : (Option ℕ)) → integer_of 0 most field ≡ n → Small (signed_as s n)
+    go (Some n) e = let i = (integer-inv 0 most field n e).most in let a = size-signed s n in omega arith
+    go None e = tt
 
-small-cond : (b : Bool) (x y : Signed) → Small x → Small y → Small (cond b x y)
+small-cond : (b : Bool) (x y : (Option ℤ)) → Small x → Small y → Small (cond b x y)
 small-cond true x y h k = h
 small-cond false x y h k = k
 
@@ -65,21 +62,21 @@ not-label e = let z : ◌≡◌ {A = ℕ} 0 1 = cc in omega arith
 not-extension : {type code : ℕ} → Bad ≡ Extension type code → ⊥
 not-extension e = let z : ◌≡◌ {A = ℕ} 0 1 = cc in omega arith
 
-record LabelFrom (n : Natural) (v : Signed) (k i : ℕ) (z : ℤ) (m : ℕ) : Type 0 where
-  id : n ≡ NaturalValue i
-  value : v ≡ SignedValue z
+record LabelFrom (n : (Option ℕ)) (v : (Option ℤ)) (k i : ℕ) (z : ℤ) (m : ℕ) : Type 0 where
+  id : n ≡ Some i
+  value : v ≡ Some z
   place : k ≡ m
 
-label-from : (n : Natural) (v : Signed) (k i : ℕ) (z : ℤ) (m : ℕ) → label_head n v k ≡ Label i z m → LabelFrom n v k i z m
+label-from : (n : (Option ℕ)) (v : (Option ℤ)) (k i : ℕ) (z : ℤ) (m : ℕ) → label_head n v k ≡ Label i z m → LabelFrom n v k i z m
 unfolding label_head
-label-from (NaturalValue j) (SignedValue y) k i z m e = record { id = cc; value = cc; place = cc }
-label-from (NaturalValue j) SignedBad k i z m e = absurd (not-label e)
-label-from NaturalBad v k i z m e = absurd (not-label e)
+label-from (Some j) (Some y) k i z m e = record { id = cc; value = cc; place = cc }
+label-from (Some j) None k i z m e = absurd (not-label e)
+label-from None v k i z m e = absurd (not-label e)
 
-extension-from : (n : Natural) (k type code : ℕ) → extension_head n k ≡ Extension type code → (n ≡ NaturalValue type) × (k ≡ code)
+extension-from : (n : (Option ℕ)) (k type code : ℕ) → extension_head n k ≡ Extension type code → (n ≡ Some type) × (k ≡ code)
 unfolding extension_head
-extension-from (NaturalValue j) k type code e = (cc, cc)
-extension-from NaturalBad k type code e = absurd (not-extension e)
+extension-from (Some j) k type code e = (cc, cc)
+extension-from None k type code e = absurd (not-extension e)
 
 -- ---- the ranges
 fields-range : (edition : Edition) (increment : Bool) (f g h : List ℕ) (id : ℕ) (v : ℤ) (n : ℕ) → label_fields edition increment f g h ≡ Label id v n
@@ -95,7 +92,7 @@ fields-range edition increment f g h id v n e =
     let same = from.place in
     (i.least, i.most, small, some n (λ (p : n ≡ 0). known (same ∙ p)), omega arith)
   where
-    not-value : {z : ℤ} → SignedBad ≡ SignedValue z → ⊥
+    not-value : {z : ℤ} → None ≡ Some z → ⊥
     not-value e = let z : ◌≡◌ {A = ℕ} 0 1 = cc in omega arith
 
     some : (n : ℕ) → (n ≡ 0 → ⊥) → 1 ≤ n
@@ -125,16 +122,16 @@ extension-range (f ∷ g ∷ h ∷ []) type code e =
     (i.least, i.most, omega arith)
 extension-range (f ∷ g ∷ h ∷ k ∷ fs) type code e = absurd (not-extension e)
 
-not-natural : {n : ℕ} → NaturalBad ≡ NaturalValue n → ⊥
+not-natural : {n : ℕ} → None ≡ Some n → ⊥
 not-natural e = let z : ◌≡◌ {A = ℕ} 0 1 = cc in omega arith
 
-pub word-range : (word : List ℕ) (low high : ℕ) (fields : List (List ℕ)) (n : ℕ) → word_number_of word low high fields ≡ NaturalValue n → (low ≤ n) × (n ≤ high)
+pub word-range : (word : List ℕ) (low high : ℕ) (fields : List (List ℕ)) (n : ℕ) → word_number_of word low high fields ≡ Some n → (low ≤ n) × (n ≤ high)
 unfolding word_number_of
 word-range word low high [] n e = absurd (not-natural e)
 word-range word low high (f ∷ []) n e = absurd (not-natural e)
 word-range word low high (f ∷ g ∷ []) n e = go (same_bytes f word) e
   where
-    go : (b : Bool) → cond b (integer_of low high g) NaturalBad ≡ NaturalValue n → (low ≤ n) × (n ≤ high)
+    go : (b : Bool) → cond b (integer_of low high g) None ≡ Some n → (low ≤ n) × (n ≤ high)
     go true e = let i = integer-inv low high g n e in (i.least, i.most)
     go false e = absurd (not-natural e)
 word-range word low high (f ∷ g ∷ h ∷ fs) n e = absurd (not-natural e)

@@ -1,11 +1,7 @@
 -- Lines that have a form of their own: labels, `extension` lines, and the two lines of a shape's head.
-use Rattle.std.specs.Prelude.{ℕ, Bool, true, false, cond, ◌&&◌, ◌||◌, List, [], ◌∷◌, leb, eqb, length}
+use Rattle.std.specs.Prelude.{ℕ, Bool, true, false, cond, ◌&&◌, ◌||◌, List, [], ◌∷◌, leb, eqb, length, None, Option, Some, ℤ}
 use Rattle.text.specs.Words.{same_bytes, place_of}
 use Rattle.numeral.specs.Integer.{largest_id, integer_of, signed_as, counter_of}
-use Rattle.numeral.specs.declared.Natural.{Natural}
-use Rattle.numeral.specs.declared.Natural.TheVariants.{Value as NaturalValue, Bad as NaturalBad}
-use Rattle.numeral.specs.declared.Signed.{Signed}
-use Rattle.numeral.specs.declared.Signed.TheVariants.{Value as SignedValue, Bad as SignedBad}
 use Rattle.shape.specs.declared.Edition.{Edition}
 use Rattle.shape.specs.declared.Edition.TheVariants.{V13, V14}
 use Rattle.heads.specs.declared.Head.{Head}
@@ -35,24 +31,24 @@ is_v14 V13 = false
 is_v14 V14 = true
 
 -- the value of a label that is set: a counter, a flag, or ONCE
-unfoldable pub set_value : Edition → ℕ → List ℕ → Signed
+unfoldable pub set_value : Edition → ℕ → List ℕ → Option ℤ
 set_value edition label field =
     cond (leb 1 label && leb label 9) (counter_of largest_id field)
     (cond (leb 10 label && leb label 12) (signed_as false (integer_of 0 1 field))
-    (cond (eqb label 13 && is_v14 edition) (signed_as false (integer_of 0 largest_id field)) SignedBad))
+    (cond (eqb label 13 && is_v14 edition) (signed_as false (integer_of 0 largest_id field)) None))
 
 -- of one that is incremented: a counter alone
-unfoldable pub increment_value : ℕ → List ℕ → Signed
-increment_value label field = cond (leb 1 label && leb label 9) (counter_of largest_id field) SignedBad
+unfoldable pub increment_value : ℕ → List ℕ → Option ℤ
+increment_value label field = cond (leb 1 label && leb label 9) (counter_of largest_id field) None
 
-unfoldable pub label_value : Edition → Bool → ℕ → List ℕ → Signed
+unfoldable pub label_value : Edition → Bool → ℕ → List ℕ → Option ℤ
 label_value edition increment label field = cond increment (increment_value label field) (set_value edition label field)
 
 -- "10 label (id, 0 set or 1 increment, value, label 1 to 13 as listed)": the id, the value and the label of a line
-unfoldable pub label_head : Natural → Signed → ℕ → Head
-label_head (NaturalValue id) (SignedValue v) label = Label id v label
-label_head (NaturalValue id) SignedBad label = Bad
-label_head NaturalBad v label = Bad
+unfoldable pub label_head : (Option ℕ) → (Option ℤ) → ℕ → Head
+label_head (Some id) (Some v) label = Label id v label
+label_head (Some id) None label = Bad
+label_head None v label = Bad
 
 unfoldable pub label_fields : Edition → Bool → List ℕ → List ℕ → List ℕ → Head
 label_fields edition increment id value name =
@@ -87,9 +83,9 @@ extension_names =
 unfoldable pub extension_word : List ℕ
 extension_word = 101 ∷ 120 ∷ 116 ∷ 101 ∷ 110 ∷ 115 ∷ 105 ∷ 111 ∷ 110 ∷ []
 
-unfoldable pub extension_head : Natural → ℕ → Head
-extension_head (NaturalValue type) code = Extension type code
-extension_head NaturalBad code = Bad
+unfoldable pub extension_head : (Option ℕ) → ℕ → Head
+extension_head (Some type) code = Extension type code
+extension_head None code = Bad
 
 unfoldable pub extension_fields : List ℕ → List ℕ → List ℕ → Head
 extension_fields word name number =
@@ -103,8 +99,8 @@ extension_of (f ∷ g ∷ []) = Bad
 extension_of (f ∷ g ∷ h ∷ k ∷ fs) = Bad
 
 -- ---- "A shape is `shape_id N`, the next noncomment line `num_samples N`": a word and a number in a range
-unfoldable pub word_number_of : List ℕ → ℕ → ℕ → List (List ℕ) → Natural
-word_number_of word low high (f ∷ g ∷ []) = cond (same_bytes f word) (integer_of low high g) NaturalBad
-word_number_of word low high [] = NaturalBad
-word_number_of word low high (f ∷ []) = NaturalBad
-word_number_of word low high (f ∷ g ∷ h ∷ fs) = NaturalBad
+unfoldable pub word_number_of : List ℕ → ℕ → ℕ → List (List ℕ) → Option ℕ
+word_number_of word low high (f ∷ g ∷ []) = cond (same_bytes f word) (integer_of low high g) None
+word_number_of word low high [] = None
+word_number_of word low high (f ∷ []) = None
+word_number_of word low high (f ∷ g ∷ h ∷ fs) = None

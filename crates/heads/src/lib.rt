@@ -7,7 +7,6 @@ ghost use Rattle.text.specs.Words.{place_of};
 ghost use Rattle.numeral.specs.Integer.{integer_of, signed_as};
 ghost use Rattle.heads.specs.Heads.{label_names, label_value, label_of, label_fields, is_name_byte, is_name, extension_names, extension_of, extension_fields, word_number_of};
 
-use numeral::{Natural, Signed};
 use shape::Edition;
 
 // The largest ID, type and counter.
@@ -22,36 +21,36 @@ pub enum Head {
 }
 
 // A number with no sign, from 0 to `most`.
-fn flag_value(field: &[u8], most: u64) -> Signed
+fn flag_value(field: &[u8], most: u64) -> Option<i64>
     ensures { result ≡ signed_as false (integer_of 0 most field.now) }
 {
     match numeral::read_integer(field, 0, most) {
-        Natural::Value(n) => Signed::Value(signed::with_sign(false, n)),
-        Natural::Bad => Signed::Bad,
+        Some(n) => Some(signed::with_sign(false, n)),
+        None => None,
     }
 }
 
 // The value of a label, by its number in the list and whether it is set or incremented.
-fn label_value(edition: Edition, increment: bool, label: usize, field: &[u8]) -> Signed
+fn label_value(edition: Edition, increment: bool, label: usize, field: &[u8]) -> Option<i64>
     ensures { result ≡ label_value edition increment label field.now }
 {
     if label == 0 {
-        return Signed::Bad;
+        return None;
     }
     if label < 10 {
         return numeral::read_counter(field, LARGEST_ID);
     }
     if increment {
-        return Signed::Bad;
+        return None;
     }
     if label < 13 {
         return flag_value(field, 1);
     }
     if 13 < label {
-        return Signed::Bad;
+        return None;
     }
     match edition {
-        Edition::V13 => Signed::Bad,
+        Edition::V13 => None,
         Edition::V14 => flag_value(field, LARGEST_ID),
     }
 }
@@ -72,11 +71,11 @@ fn label_in(edition: Edition, increment: bool, id: &[u8], value: &[u8], name: &[
 {
     let label = label_place(name);
     match numeral::read_integer(id, 1, LARGEST_ID) {
-        Natural::Value(n) => match label_value(edition, increment, label, value) {
-            Signed::Value(v) => Head::Label(n, v, label),
-            Signed::Bad => Head::Bad,
+        Some(n) => match label_value(edition, increment, label, value) {
+            Some(v) => Head::Label(n, v, label),
+            None => Head::Bad,
         },
-        Natural::Bad => Head::Bad,
+        None => Head::Bad,
     }
 }
 
@@ -159,8 +158,8 @@ fn extension_in(word: &[u8], name: &[u8], number: &[u8]) -> Head
         return Head::Bad;
     }
     match numeral::read_integer(number, 1, LARGEST_ID) {
-        Natural::Value(n) => Head::Extension(n, extension_code(name)),
-        Natural::Bad => Head::Bad,
+        Some(n) => Head::Extension(n, extension_code(name)),
+        None => Head::Bad,
     }
 }
 
@@ -179,14 +178,14 @@ pub fn read_extension(line: &[u8]) -> Head
 }
 
 // A line of a word and a number in a range, as `shape_id N` and `num_samples N`.
-pub fn read_word_number(line: &[u8], word: &[u8], low: u64, high: u64) -> Natural
+pub fn read_word_number(line: &[u8], word: &[u8], low: u64, high: u64) -> Option<u64>
     ensures { result ≡ word_number_of word.now low high (fields_of line.now) }
 {
     if fields::field_count(line) != 2 {
-        return Natural::Bad;
+        return None;
     }
     if !text::same(fields::field(line, 0), word) {
-        return Natural::Bad;
+        return None;
     }
     numeral::read_integer(fields::field(line, 1), low, high)
 }

@@ -3,7 +3,6 @@
 
 use columns::Form;
 use heads::Head;
-use numeral::Natural;
 use shape::Edition;
 
 // The descriptors of standard input and output.
@@ -87,14 +86,14 @@ fn show_extension(line: &[u8]) {
 // Writes the number of a shape's head, if the line is one.
 fn show_head(word: &[u8], most: u64, line: &[u8]) {
     match heads::read_word_number(line, word, 1, most) {
-        Natural::Value(n) => {
+        Some(n) => {
             let mut out = [0u8; 1024];
             let a = put_name(&mut out, word);
             let b = output::put_byte(&mut out, a, 32);
             let c = print::put_integer(&mut out, b, n);
             finish(&mut out, c);
         }
-        Natural::Bad => {}
+        None => {}
     }
 }
 

@@ -1,8 +1,7 @@
 // Reads number fields from standard input, one to a line, and writes what each is worth in every way that the library reads and prints one.
 #![tactic(auto)]
 
-use decimals::Number;
-use numeral::{Decimal, Natural, Signed};
+use numeral::Decimal;
 
 // The descriptors of standard input and output.
 const STDIN_FILENO: i32 = 0;
@@ -22,29 +21,29 @@ fn put_refused(out: &mut [u8], at: usize) -> usize {
 }
 
 // Writes a natural number under its name.
-fn put_natural(out: &mut [u8], at: usize, name: &[u8], n: Natural) -> usize {
+fn put_natural(out: &mut [u8], at: usize, name: &[u8], n: Option<u64>) -> usize {
     let next = put_name(out, at, name);
     match n {
-        Natural::Value(v) => print::put_integer(out, next, v),
-        Natural::Bad => put_refused(out, next),
+        Some(v) => print::put_integer(out, next, v),
+        None => put_refused(out, next),
     }
 }
 
 // Writes a signed number under its name.
-fn put_signed(out: &mut [u8], at: usize, name: &[u8], z: Signed) -> usize {
+fn put_signed(out: &mut [u8], at: usize, name: &[u8], z: Option<i64>) -> usize {
     let next = put_name(out, at, name);
     match z {
-        Signed::Value(v) => print::put_signed(out, next, v),
-        Signed::Bad => put_refused(out, next),
+        Some(v) => print::put_signed(out, next, v),
+        None => put_refused(out, next),
     }
 }
 
 // Writes a number of steps as a sample.
-fn put_sample(out: &mut [u8], at: usize, steps: Signed) -> usize {
+fn put_sample(out: &mut [u8], at: usize, steps: Option<i64>) -> usize {
     let next = put_name(out, at, b"sample");
     match steps {
-        Signed::Value(v) => print::put_sample(out, next, v),
-        Signed::Bad => put_refused(out, next),
+        Some(v) => print::put_sample(out, next, v),
+        None => put_refused(out, next),
     }
 }
 
@@ -102,12 +101,12 @@ fn put_no_decimal(out: &mut [u8], at: usize) -> usize {
 // Writes all that a field is worth as a decimal.
 fn put_decimal(out: &mut [u8], at: usize, field: &[u8]) -> usize {
     match decimals::read_decimal(field) {
-        Number::Value(d) => {
+        Some(d) => {
             let a = put_pair(out, at, d);
             let b = put_wholes(out, a, d);
             put_texts(out, b, d)
         }
-        Number::Bad => put_no_decimal(out, at),
+        None => put_no_decimal(out, at),
     }
 }
 

@@ -1,4 +1,5 @@
 -- Laws of integer fields and ranges: each outcome of the code's tests, and what a good field says. Assumes nothing.
+use Rattle.std.proofs.Common.{None, Some}
 use Prim.Native.Nat.{ℕ, ◌≤◌, ◌<◌, ◌+◌, ◌*◌, ◌^◌}
 use mathlib.Core.List.{List}
 use mathlib.Core.Bool.{Bool, true, false, cond, ◌&&◌}
@@ -11,48 +12,47 @@ use lib.ListN.{length}
 use lib.Dec.{leb, lit<}
 use Rattle.numeral.specs.Digits.{all_digits, value_of}
 use Rattle.numeral.specs.Integer.{in_range, is_integer, integer_of}
-use Rattle.numeral.specs.declared.Natural.TheVariants.{Value, Bad}
 use Rattle.text.proofs.Cases.{and_both, true-or-false, cond_yes}
 use Rattle.numeral.proofs.Digits.{value_from-below}
 
 -- ---- A range
 module _ (low high n : ℕ) where
-  pub range-low : n < low → Bad ≡ in_range low high n
+  pub range-low : n < low → None ≡ in_range low high n
   unfolding in_range
   range-low h = simp (lt-leb low n h)
 
-  pub range-high : low ≤ n → high < n → Bad ≡ in_range low high n
+  pub range-high : low ≤ n → high < n → None ≡ in_range low high n
   unfolding in_range
   range-high h k = simp (le-leb low n h, lt-leb n high k)
 
-  pub range-value : low ≤ n → n ≤ high → Value n ≡ in_range low high n
+  pub range-value : low ≤ n → n ≤ high → Some n ≡ in_range low high n
   unfolding in_range
   range-value h k = simp (le-leb low n h, le-leb n high k)
 
   -- above the range, whatever the lower end
-  pub range-above : high < n → Bad ≡ in_range low high n
+  pub range-above : high < n → None ≡ in_range low high n
   unfolding in_range
   range-above k = go (leb low n)
     where
-      go : (t : Bool) → Bad ≡ cond (t && leb n high) (Value n) Bad
+      go : (t : Bool) → None ≡ cond (t && leb n high) (Some n) None
       go true = rw (lt-leb n high k)
       go false = refl
 
-pub not-bad : (n : ℕ) → Bad ≡ Value n → ⊥
+pub not-bad : (n : ℕ) → None ≡ Some n → ⊥
 not-bad n e = let z : ◌≡◌ {A = ℕ} 0 1 = cc in omega arith
 
-value-is : (v n : ℕ) → Value v ≡ Value n → v ≡ n
+value-is : (v n : ℕ) → Some v ≡ Some n → v ≡ n
 value-is v n e = cc
 
-pub cond_value : (b : Bool) (v n : ℕ) → cond b (Value v) Bad ≡ Value n → (b ≡ true) × (v ≡ n)
-cond_value b v n e = let t = cond_yes b (Value v) (not-bad n) e in (t.0, value-is v n t.1)
+pub cond_value : (b : Bool) (v n : ℕ) → cond b (Some v) None ≡ Some n → (b ≡ true) × (v ≡ n)
+cond_value b v n e = let t = cond_yes b (Some v) (not-bad n) e in (t.0, value-is v n t.1)
 
 pub record RangeIs (low high n m : ℕ) : Type 0 where
   pub same : n ≡ m
   pub least : low ≤ n
   pub most : n ≤ high
 
-pub range-inv : (low high n m : ℕ) → in_range low high n ≡ Value m → RangeIs low high n m
+pub range-inv : (low high n m : ℕ) → in_range low high n ≡ Some m → RangeIs low high n m
 unfolding in_range
 range-inv low high n m e =
     let t = cond_value (leb low n && leb n high) n m e in
@@ -76,7 +76,7 @@ pub integer-yes : (s : List ℕ) → 1 ≤ length s → length s ≤ 10 → all_
 unfolding is_integer
 integer-yes s h k e = rw (le-leb 1 (length s) h, le-leb (length s) 10 k, e)
 
-pub integer-bad : (low high : ℕ) (s : List ℕ) → is_integer s ≡ false → Bad ≡ integer_of low high s
+pub integer-bad : (low high : ℕ) (s : List ℕ) → is_integer s ≡ false → None ≡ integer_of low high s
 unfolding integer_of
 integer-bad low high s e = rw e
 
@@ -93,7 +93,7 @@ pub record IntegerIs (low high : ℕ) (s : List ℕ) (n : ℕ) : Type 0 where
   pub least : low ≤ n
   pub most : n ≤ high
 
-pub integer-inv : (low high : ℕ) (s : List ℕ) (n : ℕ) → integer_of low high s ≡ Value n → IntegerIs low high s n
+pub integer-inv : (low high : ℕ) (s : List ℕ) (n : ℕ) → integer_of low high s ≡ Some n → IntegerIs low high s n
 unfolding is_integer
 integer-inv low high s n e =
     ⊎_elim (λ (t : is_integer s ≡ true).

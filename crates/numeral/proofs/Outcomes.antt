@@ -1,4 +1,5 @@
 -- The answers of the functions that make or take signed numbers, in the words of the definitions. Assumes nothing.
+use Rattle.std.proofs.Common.{None, Option, Some}
 use Prim.Native.Nat.{ℕ, suc, ◌+◌, ◌*◌, ◌-◌, ◌^◌, ◌≤◌, ◌<◌, min, ◌/◌, ◌%◌}
 use mathlib.Core.List.{List, [], ◌∷◌}
 use mathlib.Core.Bool.{Bool, true, false, cond}
@@ -14,10 +15,7 @@ use Rattle.numeral.specs.Integer.{in_range, integer_of, signed_as, counter_of}
 use Rattle.numeral.specs.Worth.{whole_at, whole_of, nearest, round_at, rounded_of}
 use Rattle.numeral.specs.Inside.{shift_of, Held}
 use Rattle.numeral.specs.declared.Decimal.{Decimal}
-use Rattle.numeral.specs.declared.Natural.{Natural}
-use Rattle.numeral.specs.declared.Natural.TheVariants.{Value as NaturalValue, Bad as NaturalBad}
 use Rattle.numeral.specs.declared.Shift.TheVariants.{Up, Down}
-use Rattle.numeral.specs.declared.Signed.TheVariants.{Value as SignedValue, Bad as SignedBad}
 use Rattle.text.proofs.Cases.{cond_yes}
 use Rattle.numeral.proofs.Integer.{not-bad, integer-inv, value-below, range-inv}
 use Rattle.numeral.proofs.Scaling.{down_of}
@@ -27,31 +25,31 @@ pub held-size : (s : Bool) (n : ℕ) → n ≤ largest → signed_of s (min n la
 held-size s n h = let e : min n largest ≡ n = omega arith in rw e
 
 -- ---- A size with its sign
-pub as-value : (negative : Bool) (n : Natural) (size : ℕ) (z : ℤ) → n ≡ NaturalValue size → Held n → z ≡ signed_of negative (min size largest)
-    → SignedValue z ≡ signed_as negative n
+pub as-value : (negative : Bool) (n : (Option ℕ)) (size : ℕ) (z : ℤ) → n ≡ Some size → Held n → z ≡ signed_of negative (min size largest)
+    → Some z ≡ signed_as negative n
 unfolding signed_as Held
-as-value negative n size z e h p = rw e (ap SignedValue (p ∙ held-size negative size (rw e at h)))
+as-value negative n size z e h p = rw e (ap Some (p ∙ held-size negative size (rw e at h)))
 
-pub as-bad : (negative : Bool) (n : Natural) → n ≡ NaturalBad → SignedBad ≡ signed_as negative n
+pub as-bad : (negative : Bool) (n : (Option ℕ)) → n ≡ None → None ≡ signed_as negative n
 unfolding signed_as
 as-bad negative n e = rw e
 
-pub held-integer : (low high : ℕ) (s : List ℕ) (n : Natural) → n ≡ integer_of low high s → Held n
+pub held-integer : (low high : ℕ) (s : List ℕ) (n : (Option ℕ)) → n ≡ integer_of low high s → Held n
 unfolding Held
-held-integer low high s (NaturalValue n) e =
+held-integer low high s (Some n) e =
     let i = integer-inv low high s n (sym e) in
     let w = i.worth in
     omega (arith, value-below s 10 i.all i.short)
-held-integer low high s NaturalBad e = tt
+held-integer low high s None e = tt
 
-pub held-range : (low high v : ℕ) (n : Natural) → high ≤ largest → n ≡ in_range low high v → Held n
+pub held-range : (low high v : ℕ) (n : (Option ℕ)) → high ≤ largest → n ≡ in_range low high v → Held n
 unfolding Held
-held-range low high v (NaturalValue n) h e =
+held-range low high v (Some n) h e =
     let i = range-inv low high v n (sym e) in
     let a = i.same in
     let b = i.most in
     omega arith
-held-range low high v NaturalBad h e = tt
+held-range low high v None h e = tt
 
 -- ---- A counter value
 pub minus-length : (s : List ℕ) → is_minus s ≡ true → 1 ≤ length s
@@ -113,7 +111,7 @@ down-some k (negsuc j) e = let q : suc j ≡ k = cc in omega arith
 
 -- ---- A whole worth, and a rounded one
 module _ (d : Decimal) (shift low high : ℕ) where
-  pub whole-negative : is_negative d.mantissa ≡ true → NaturalBad ≡ whole_of d shift low high
+  pub whole-negative : is_negative d.mantissa ≡ true → None ≡ whole_of d shift low high
   unfolding whole_of
   whole-negative e = rw e
 
@@ -136,20 +134,20 @@ module _ (d : Decimal) (negative : Bool) (s : negative ≡ is_negative d.mantiss
   round-down e = rw (s, p, down_round (nat_abs d.mantissa) k (d.exponent +ℤ pos 12) e)
 
 -- what there is of a whole worth is in the range
-range-both : (low high n m : ℕ) → in_range low high n ≡ NaturalValue m → (low ≤ m) × (m ≤ high)
+range-both : (low high n m : ℕ) → in_range low high n ≡ Some m → (low ≤ m) × (m ≤ high)
 range-both low high n m e = let r = range-inv low high n m e in rw (← r.same) (r.least, r.most)
 
-at-range : (low high n : ℕ) (x : ℤ) (m : ℕ) → whole_at low high n x ≡ NaturalValue m → (low ≤ m) × (m ≤ high)
+at-range : (low high n : ℕ) (x : ℤ) (m : ℕ) → whole_at low high n x ≡ Some m → (low ≤ m) × (m ≤ high)
 unfolding whole_at
 at-range low high n (pos k) m e = range-both low high (n * 10 ^ k) m e
 at-range low high n (negsuc k) m e =
     let c = cond_yes (eqb (n % 10 ^ suc k) 0) (in_range low high (n / 10 ^ suc k)) (not-bad m) e in
     range-both low high (n / 10 ^ suc k) m c.1
 
-pub whole-range : (d : Decimal) (shift low high m : ℕ) → whole_of d shift low high ≡ NaturalValue m → (low ≤ m) × (m ≤ high)
+pub whole-range : (d : Decimal) (shift low high m : ℕ) → whole_of d shift low high ≡ Some m → (low ≤ m) × (m ≤ high)
 unfolding whole_of
 whole-range d shift low high m e = go (is_negative d.mantissa) e
   where
-    go : (b : Bool) → cond b NaturalBad (whole_at low high (nat_abs d.mantissa) (d.exponent +ℤ pos shift)) ≡ NaturalValue m → (low ≤ m) × (m ≤ high)
+    go : (b : Bool) → cond b None (whole_at low high (nat_abs d.mantissa) (d.exponent +ℤ pos shift)) ≡ Some m → (low ≤ m) × (m ≤ high)
     go true q = absurd (not-bad m q)
     go false q = at-range low high (nat_abs d.mantissa) (d.exponent +ℤ pos shift) m q

@@ -1,4 +1,5 @@
 -- Laws of powers of ten: a number scaled up into a range, scaled down exactly, and scaled down to the nearest. Assumes nothing.
+use Rattle.std.proofs.Common.{None, Option}
 use Prim.Native.Nat.{ℕ, zero, suc, ◌+◌, ◌*◌, ◌-◌, ◌/◌, ◌%◌, ◌^◌, ◌<◌, ◌≤◌}
 use mathlib.Core.Bool.{cond}
 use mathlib.Core.Path.{◌≡◌, sym, ap, ◌∙◌}
@@ -8,8 +9,6 @@ use borrow.Author.Tests.{eq-eqb, ne_eqb}
 use lib.Dec.{eqb, lit<}
 use Rattle.numeral.specs.Integer.{in_range}
 use Rattle.numeral.specs.Worth.{nearest}
-use Rattle.numeral.specs.declared.Natural.{Natural}
-use Rattle.numeral.specs.declared.Natural.TheVariants.{Bad}
 use Rattle.numeral.proofs.Integer.{range-above}
 
 pub ten-some : (k : ℕ) → 0 < 10 ^ k
@@ -30,7 +29,7 @@ module _ (low high v k : ℕ) where
   pub up-zero : v ≡ 0 → in_range low high 0 ≡ in_range low high (v * 10 ^ k)
   up-zero e = rw (e, zero-mul)
 
-  pub up-far : (v ≡ 0 → ⊥) → 18 < k → high < 10 ^ 19 → Bad ≡ in_range low high (v * 10 ^ k)
+  pub up-far : (v ≡ 0 → ⊥) → 18 < k → high < 10 ^ 19 → None ≡ in_range low high (v * 10 ^ k)
   up-far n h b =
       let t : 10 ^ 19 ≤ 10 ^ k = ten-most h in
       let s : 1 * 10 ^ k ≤ v * 10 ^ k = mul-le-mul_right (10 ^ k) (omega arith) in
@@ -42,7 +41,7 @@ module _ (low high v k : ℕ) where
     whole = let m : suc (18 - k) + k ≡ 19 = omega arith in
         rw (e, ← pow-suc 10 (18 - k)) (ten-plus (suc (18 - k)) k ∙ ap (λ (n : ℕ). 10 ^ n) m)
 
-    pub up-over : rest * 10 ≤ v → high < 10 ^ 19 → Bad ≡ in_range low high (v * 10 ^ k)
+    pub up-over : rest * 10 ≤ v → high < 10 ^ 19 → None ≡ in_range low high (v * 10 ^ k)
     up-over o b = let m : rest * 10 * 10 ^ k ≤ v * 10 ^ k = mul-le-mul_right (10 ^ k) o in range-above low high (v * 10 ^ k) (omega (arith, whole))
 
     pub rest-most : rest * 10 ≤ 10 ^ 19
@@ -55,8 +54,8 @@ module _ (low high v k : ℕ) where
   up_is e = rw e
 
 -- ---- Down, exactly
-abbrev pub down_of : ℕ → ℕ → ℕ → ℕ → Natural
-down_of low high v p = cond (eqb (v % p) 0) (in_range low high (v / p)) Bad
+abbrev pub down_of : ℕ → ℕ → ℕ → ℕ → Option ℕ
+down_of low high v p = cond (eqb (v % p) 0) (in_range low high (v / p)) None
 
 module _ (low high v k : ℕ) where
   module _ (h : 18 < k) (b : v < 10 ^ 19) where
@@ -66,11 +65,11 @@ module _ (low high v k : ℕ) where
     pub down-zero : v ≡ 0 → in_range low high 0 ≡ down_of low high v (10 ^ k)
     down-zero e = rw (mod-eq_of_lt beyond, div-eq_of_lt beyond, eq-eqb v 0 e)
 
-    pub down-far : (v ≡ 0 → ⊥) → Bad ≡ down_of low high v (10 ^ k)
+    pub down-far : (v ≡ 0 → ⊥) → None ≡ down_of low high v (10 ^ k)
     down-far n = rw (mod-eq_of_lt beyond, ne_eqb v 0 n)
 
   module _ (p : ℕ) (e : p ≡ 10 ^ k) where
-    pub down-part : (v % p ≡ 0 → ⊥) → Bad ≡ down_of low high v (10 ^ k)
+    pub down-part : (v % p ≡ 0 → ⊥) → None ≡ down_of low high v (10 ^ k)
     down-part n = rw (← e, ne_eqb (v % p) 0 n)
 
     pub down-whole : v % p ≡ 0 → in_range low high (v / p) ≡ down_of low high v (10 ^ k)

@@ -1,8 +1,6 @@
 -- What the inner functions answer. Nothing here needs to be believed: laws lead from these to the definitions of the other files.
-use Rattle.std.specs.Prelude.{suc, ◌≤◌, ℤ, pos, negsuc}
+use Rattle.std.specs.Prelude.{suc, ◌≤◌, ℤ, pos, negsuc, None, Option, Some, ℕ}
 use Rattle.signed.specs.Signed.{largest}
-use Rattle.numeral.specs.declared.Natural.{Natural}
-use Rattle.numeral.specs.declared.Natural.TheVariants.{Value as NaturalValue, Bad as NaturalBad}
 use Rattle.numeral.specs.declared.Shift.{Shift}
 use Rattle.numeral.specs.declared.Shift.TheVariants.{Up, Down}
 
@@ -12,6 +10,6 @@ shift_of (pos k) = Up k
 shift_of (negsuc k) = Down (suc k)
 
 -- ---- A size that an i64 holds with either sign
-unfoldable pub Held : Natural → Type 0
-Held (NaturalValue n) = n ≤ largest
-Held NaturalBad = Unit
+unfoldable pub Held : (Option ℕ) → Type 0
+Held (Some n) = n ≤ largest
+Held None = Unit

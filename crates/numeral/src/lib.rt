@@ -7,20 +7,6 @@ ghost use Rattle.numeral.specs.Integer.{in_range, integer_of, signed_as, counter
 ghost use Rattle.numeral.specs.Worth.{whole_of, nearest, rounded_of};
 ghost use Rattle.numeral.specs.Inside.{shift_of, Held};
 
-// A natural number that was asked for, or none.
-#[derive(Clone, Copy)]
-pub enum Natural {
-    Value(u64),
-    Bad,
-}
-
-// A signed number that was asked for, or none.
-#[derive(Clone, Copy)]
-pub enum Signed {
-    Value(i64),
-    Bad,
-}
-
 // A decimal as it is kept: mantissa times ten to the exponent.
 #[derive(Clone, Copy)]
 pub struct Decimal {
@@ -46,37 +32,37 @@ pub fn is_minus(s: &[u8]) -> bool
 }
 
 // A number, if it is in a range.
-fn in_range(n: u64, low: u64, high: u64) -> Natural
+fn in_range(n: u64, low: u64, high: u64) -> Option<u64>
     ensures { result ≡ in_range low high n }
 {
     if n < low {
-        return Natural::Bad;
+        return None;
     }
     if high < n {
-        return Natural::Bad;
+        return None;
     }
-    Natural::Value(n)
+    Some(n)
 }
 
 // An integer field, 1 to 10 digits and nothing else, that is worth `low` to `high`.
-pub fn read_integer(field: &[u8], low: u64, high: u64) -> Natural
+pub fn read_integer(field: &[u8], low: u64, high: u64) -> Option<u64>
     ensures { result ≡ integer_of low high field.now }
 {
     if field.len() == 0 {
-        return Natural::Bad;
+        return None;
     }
     if 10 < field.len() {
-        return Natural::Bad;
+        return None;
     }
     let mut v: u64 = 0;
     let mut i = 0;
     while i < field.len() {
         let b = field[i];
         if b < 48 {
-            return Natural::Bad;
+            return None;
         }
         if 57 < b {
-            return Natural::Bad;
+            return None;
         }
         v = v * 10 + (b - 48) as u64;
         i += 1;
@@ -85,18 +71,18 @@ pub fn read_integer(field: &[u8], low: u64, high: u64) -> Natural
 }
 
 // A size with its sign, where there is one.
-fn signed_as(negative: bool, n: Natural) -> Signed
+fn signed_as(negative: bool, n: Option<u64>) -> Option<i64>
     requires { Held n }
     ensures { result ≡ signed_as negative n }
 {
     match n {
-        Natural::Value(size) => Signed::Value(signed::with_sign(negative, size)),
-        Natural::Bad => Signed::Bad,
+        Some(size) => Some(signed::with_sign(negative, size)),
+        None => None,
     }
 }
 
 // A counter value: an integer field with a minus first or none, from -most to most.
-pub fn read_counter(field: &[u8], most: u64) -> Signed
+pub fn read_counter(field: &[u8], most: u64) -> Option<i64>
     ensures { result ≡ counter_of most field.now }
 {
     if is_minus(field) {
@@ -149,7 +135,7 @@ fn shift_by(e: i64, by: u8) -> Shift
 }
 
 // v times ten to the power k, if it is in a range.
-fn scale_up(v: u64, k: u64, low: u64, high: u64) -> Natural
+fn scale_up(v: u64, k: u64, low: u64, high: u64) -> Option<u64>
     requires { high < 10 ^ 19 }
     ensures { result ≡ in_range low high (v * 10 ^ k) }
 {
@@ -157,28 +143,28 @@ fn scale_up(v: u64, k: u64, low: u64, high: u64) -> Natural
         return in_range(0, low, high);
     }
     if 18 < k {
-        return Natural::Bad;
+        return None;
     }
     if power_of_ten(18 - k) * 10 <= v {
-        return Natural::Bad;
+        return None;
     }
     in_range(v * power_of_ten(k), low, high)
 }
 
 // v by ten to the power k, if that is whole and in a range.
-fn scale_down(v: u64, k: u64, low: u64, high: u64) -> Natural
+fn scale_down(v: u64, k: u64, low: u64, high: u64) -> Option<u64>
     requires { v < 10 ^ 19 }
-    ensures { result ≡ cond (eqb (v % 10 ^ k) 0) (in_range low high (v / 10 ^ k)) Natural.Bad }
+    ensures { result ≡ cond (eqb (v % 10 ^ k) 0) (in_range low high (v / 10 ^ k)) None }
 {
     if 18 < k {
         if v == 0 {
             return in_range(0, low, high);
         }
-        return Natural::Bad;
+        return None;
     }
     let p = power_of_ten(k);
     if v % p != 0 {
-        return Natural::Bad;
+        return None;
     }
     in_range(v / p, low, high)
 }
@@ -195,13 +181,13 @@ fn round_down(v: u64, k: u64) -> u64
 }
 
 // A decimal times ten to the power `shift`, if that is a whole number from `low` to `high`.
-pub fn whole_worth(d: Decimal, shift: u8, low: u32, high: u32) -> Natural
+pub fn whole_worth(d: Decimal, shift: u8, low: u32, high: u32) -> Option<u64>
     ensures { result ≡ whole_of d shift low high }
 {
     let m = d.mantissa;
     let e = d.exponent;
     if signed::is_negative(m) {
-        return Natural::Bad;
+        return None;
     }
     let v = signed::size(m);
     match shift_by(e, shift) {
@@ -211,7 +197,7 @@ pub fn whole_worth(d: Decimal, shift: u8, low: u32, high: u32) -> Natural
 }
 
 // A decimal in steps of 10^-12, rounded, ties away from zero; none beyond 200,000.
-pub fn rounded(d: Decimal) -> Signed
+pub fn rounded(d: Decimal) -> Option<i64>
     ensures { result ≡ rounded_of d }
 {
     let m = d.mantissa;

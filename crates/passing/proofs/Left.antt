@@ -1,9 +1,9 @@
 -- Definitions, `extension` lines and shapes stand in their own sections alone: where a file stands elsewhere, no line belongs to one, and once such a
 -- section is left, no further line does. Assumes nothing.
+use Rattle.std.proofs.Common.{Option, None, Some}
 use Prim.Native.Nat.{ℕ, min, ◌≤◌}
 use mathlib.Core.Bool.{Bool, true, false, cond, not, true≢false}
 use mathlib.Core.List.{List, [], ◌∷◌}
-use mathlib.Core.Option.{Option, none, some}
 use mathlib.Core.Path.{◌≡◌, refl, sym, ◌∙◌}
 use native.Mathlib.Omega.{arith}
 use borrow.Author.Tests.{eqb-true, eqb-false, eq-eqb, ne_eqb, not-true}
@@ -18,8 +18,6 @@ use Rattle.text.proofs.Cases.{and_both}
 use Rattle.fields.specs.Fields.{fields_of}
 use Rattle.signed.specs.Signed.{same_z, largest}
 use Rattle.numeral.specs.Integer.{largest_id}
-use Rattle.numeral.specs.declared.Natural.{Natural}
-use Rattle.numeral.specs.declared.Natural.TheVariants.{Value as NaturalValue, Bad as NaturalBad}
 use Rattle.shape.specs.Stored.{item_of}
 use Rattle.shape.specs.declared.Item.{Item}
 use Rattle.shape.specs.declared.Item.TheVariants.{Value as ItemValue, Skipped, Bad as ItemBad}
@@ -42,7 +40,7 @@ use Rattle.places.specs.declared.Fault.{Fault}
 use Rattle.places.specs.declared.Fault.TheVariants.{Line as LineFault, Version as VersionFault, Section as SectionFault, Field as FieldFault}
 use Rattle.places.specs.declared.Found.TheVariants.{Row}
 use Rattle.places.specs.declared.Lines.{Lines}
-use Rattle.places.specs.declared.Lines.TheVariants.{None, Definitions, Rows, Shapes}
+use Rattle.places.specs.declared.Lines.TheVariants.{None as NoLines, Definitions, Rows, Shapes}
 use Rattle.places.specs.declared.Listed.{Listed}
 use Rattle.places.specs.declared.Listed.TheVariants.{Entries, Triggers, Labels, Unknown}
 use Rattle.places.specs.declared.Place.{Place}
@@ -120,8 +118,8 @@ module _ (k : ℕ) (behind : 2 ≤ k) (st : State) (apart : section_in st.place 
   by_form n form fields = go (row_from (columns_of st.edition form) fields)
     where
       go : (o : Option (List ℤ)) → Silent k st (given_row st n (row_is form o))
-      go none = refuses FieldFault
-      go (some vs) = gives n (form_number form) vs (form-kind form).0 (form-kind form).1
+      go None = refuses FieldFault
+      go (Some vs) = gives n (form_number form) vs (form-kind form).0 (form-kind form).1
 
   -- ---- a section that begins is another one
   pick : (P : Place → Type 0) (b : Bool) (x y : Place) → (b ≡ true → P x) → P y → P (cond b x y)
@@ -191,22 +189,22 @@ module _ (k : ℕ) (behind : 2 ≤ k) (st : State) (apart : section_in st.place 
   at-blank Signature a = stays
 
   -- ---- VERSION
-  version-row : (p : Place) → (section_in p ≡ k → ⊥) → (v : Natural) → Silent k st (version_row st (moved_of st p) v)
+  version-row : (p : Place) → (section_in p ≡ k → ⊥) → (v : (Option ℕ)) → Silent k st (version_row st (moved_of st p) v)
   unfolding version_row
-  version-row p a (NaturalValue v) = moves p a
-  version-row p a NaturalBad = refuses VersionFault
+  version-row p a (Some v) = moves p a
+  version-row p a None = refuses VersionFault
 
-  minor-row : (v : Natural) → Silent k st (minor_row st v)
+  minor-row : (v : (Option ℕ)) → Silent k st (minor_row st v)
   unfolding minor_row
-  minor-row (NaturalValue v) =
+  minor-row (Some v) =
       goes (record { place = Version Revision; edition = edition_of v; seen = st.seen; samples = st.samples }) (λ m. record { met = m; away = nowhere })
-  minor-row NaturalBad = refuses VersionFault
+  minor-row None = refuses VersionFault
 
   at-version : (fields : List (List ℕ)) (due : Due) → Silent k st (version_step st fields due)
   unfolding version_step
   at-version fields Major = version-row (Version Minor) nowhere (word_number_of major_word 1 1 fields)
   at-version fields Minor = minor-row (word_number_of minor_word 3 4 fields)
-  at-version fields Revision = version-row (Section None) nowhere (word_number_of revision_word 0 1 fields)
+  at-version fields Revision = version-row (Section NoLines) nowhere (word_number_of revision_word 0 1 fields)
 
   -- ---- sections behind VERSION; where the file stands in DEFINITIONS, EXTENSIONS or SHAPES, that is not section k
   at-definition : (2 ≡ k → ⊥) → (line : List ℕ) → Silent k st (definition_step st line)
@@ -217,15 +215,15 @@ module _ (k : ℕ) (behind : 2 ≤ k) (st : State) (apart : section_in st.place 
       go true = record { left = same; other = o }
       go false = refuses FieldFault
 
-  at_head : (9 ≡ k → ⊥) → (n : ℕ) (v : Natural) → Silent k st (head_row st n v)
+  at_head : (9 ≡ k → ⊥) → (n : ℕ) (v : (Option ℕ)) → Silent k st (head_row st n v)
   unfolding head_row
-  at_head o n (NaturalValue id) = moves (Head (pos id) n) o
-  at_head o n NaturalBad = refuses FieldFault
+  at_head o n (Some id) = moves (Head (pos id) n) o
+  at_head o n None = refuses FieldFault
 
-  at_count : (9 ≡ k → ⊥) → (z : ℤ) (n : ℕ) (v : Natural) → Silent k st (count_row st z n v)
+  at_count : (9 ≡ k → ⊥) → (z : ℤ) (n : ℕ) (v : (Option ℕ)) → Silent k st (count_row st z n v)
   unfolding count_row counted_of given_section
-  at_count o z n (NaturalValue num) = record { left = λ m. record { met = m; away = o }; other = rw (shape-kind (z ∷ pos num ∷ pos (min st.samples largest) ∷ [])) o }
-  at_count o z n NaturalBad = refuses FieldFault
+  at_count o z n (Some num) = record { left = λ m. record { met = m; away = o }; other = rw (shape-kind (z ∷ pos num ∷ pos (min st.samples largest) ∷ [])) o }
+  at_count o z n None = refuses FieldFault
 
   at_value : (i : Item) → Silent k st (value_row st i)
   unfolding value_row
@@ -235,7 +233,7 @@ module _ (k : ℕ) (behind : 2 ≤ k) (st : State) (apart : section_in st.place 
 
   at-lines : (n : ℕ) (line : List ℕ) (lines : Lines) → (section_in (Section lines) ≡ k → ⊥) → Silent k st (lines_step st n line lines)
   unfolding lines_step head_step
-  at-lines n line None a = refuses VersionFault
+  at-lines n line NoLines a = refuses VersionFault
   at-lines n line Definitions a = at-definition a line
   at-lines n line (Rows form) a = by_form n form (fields_of line)
   at-lines n line Shapes a = at_head a n (word_number_of shape_id_word 1 largest_id (fields_of line))

@@ -1,9 +1,9 @@
 -- What is known of a line that is passed over and not at fault: the file stands where it stood, and the line gave a row by columns or nothing.
 -- Assumes nothing.
+use Rattle.std.proofs.Common.{Option, None, Some}
 use Prim.Native.Nat.{ℕ, suc}
 use mathlib.Core.Bool.{Bool, true, false, cond, true≢false}
 use mathlib.Core.List.{List, [], ◌∷◌}
-use mathlib.Core.Option.{Option, none, some}
 use mathlib.Core.Path.{◌≡◌, refl, sym, ◌∙◌}
 use lib.IntN.{ℤ, pos}
 use lib.ListN.{get_or, set}
@@ -23,7 +23,7 @@ use Rattle.rows.specs.Cells.{row_from, row_is}
 use Rattle.grammar.specs.Steps.{value_row, given_row, row_step, lines_step, plain_step, marked_step, step_of}
 use Rattle.places.specs.Places.{went_of, refused_of}
 use Rattle.places.specs.declared.Lines.{Lines}
-use Rattle.places.specs.declared.Lines.TheVariants.{None, Definitions, Rows, Shapes}
+use Rattle.places.specs.declared.Lines.TheVariants.{None as NoLines, Definitions, Rows, Shapes}
 use Rattle.places.specs.declared.Place.{Place}
 use Rattle.places.specs.declared.Place.TheVariants.{Start, Version, Section, Extensions, Head, Values, Signature}
 use Rattle.places.specs.declared.Fault.TheVariants.{Line}
@@ -58,8 +58,8 @@ module _ (st : State) (n : ℕ) where
 
   row-over : (form : Form) (o : Option (List ℤ)) → is_fault (given_row st n (row_is form o)).found ≡ false → Over st (given_row st n (row_is form o))
   unfolding given_row row_is is_fault
-  row-over form none e = absurd (true≢false e)
-  row-over form (some vs) e = record { next = refl; gave = columns form refl (kind-of (form_number form) vs) }
+  row-over form None e = absurd (true≢false e)
+  row-over form (Some vs) e = record { next = refl; gave = columns form refl (kind-of (form_number form) vs) }
 
   value-over : (i : Item) → is_fault (value_row st i).found ≡ false → Over st (value_row st i)
   unfolding value_row is_fault
@@ -69,7 +69,7 @@ module _ (st : State) (n : ℕ) where
 
   lines-over : (line : List ℕ) (lines : Lines) → passes_in lines ≡ true → is_fault (lines_step st n line lines).found ≡ false → Over st (lines_step st n line lines)
   unfolding lines_step row_step
-  lines-over line None p e = absurd (true≢false (sym p))
+  lines-over line NoLines p e = absurd (true≢false (sym p))
   lines-over line Definitions p e = absurd (true≢false (sym p))
   lines-over line (Rows form) p e = row-over form (row_from (columns_of st.edition form) (fields_of line)) e
   lines-over line Shapes p e = absurd (true≢false (sym p))

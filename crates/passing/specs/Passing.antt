@@ -3,12 +3,12 @@ use Rattle.std.specs.Prelude.{Bool, true, false}
 use Rattle.text.specs.declared.Mark.{Mark}
 use Rattle.text.specs.declared.Mark.TheVariants.{Blank, Comment, Section as SectionLine, Plain}
 use Rattle.places.specs.declared.Lines.{Lines}
-use Rattle.places.specs.declared.Lines.TheVariants.{None, Definitions, Rows, Shapes}
+use Rattle.places.specs.declared.Lines.TheVariants.{None as NoLines, Definitions, Rows, Shapes}
 use Rattle.places.specs.declared.Place.{Place}
 use Rattle.places.specs.declared.Place.TheVariants.{Start, Version, Section, Extensions, Head, Values, Signature}
 
 abbrev pub passes_in : Lines → Bool
-passes_in None = false
+passes_in NoLines = false
 passes_in Definitions = false
 passes_in (Rows form) = true
 passes_in Shapes = false

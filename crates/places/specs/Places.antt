@@ -3,7 +3,7 @@ use Rattle.std.specs.Prelude.{ℕ, false, replicate}
 use Rattle.shape.specs.declared.Edition.TheVariants.{V13}
 use Rattle.columns.specs.Rows.{blank}
 use Rattle.places.specs.declared.Lines.{Lines}
-use Rattle.places.specs.declared.Lines.TheVariants.{None, Definitions, Rows, Shapes}
+use Rattle.places.specs.declared.Lines.TheVariants.{None as NoLines, Definitions, Rows, Shapes}
 use Rattle.places.specs.declared.Place.{Place}
 use Rattle.places.specs.declared.Place.TheVariants.{Start, Version, Section, Extensions, Head, Values, Signature}
 use Rattle.places.specs.declared.Fault.{Fault}
@@ -23,7 +23,7 @@ fault_number FieldFault = 5
 -- ---- The sections that are sought again: keys stand in section 2, DEFINITIONS, names of extensions in section 8, EXTENSIONS, and shapes in section 9,
 -- SHAPES. Which of them a place is in; 0 if in none
 abbrev pub lines_section : Lines → ℕ
-lines_section None = 0
+lines_section NoLines = 0
 lines_section Definitions = 2
 lines_section (Rows form) = 0
 lines_section Shapes = 9

@@ -1,4 +1,5 @@
 -- What is printed reads back as the same number, for each printer, on its whole range. Assumes nothing.
+use Rattle.std.proofs.Common.{Some}
 use Prim.Native.Nat.{ℕ, ◌+◌, ◌*◌, ◌%◌, ◌≤◌, ◌<◌, ◌^◌}
 use mathlib.Core.Bool.{Bool, true, false, cond}
 use mathlib.Core.List.{◌++◌}
@@ -17,9 +18,6 @@ use Rattle.numeral.specs.Integer.{in_range, integer_of, signed_as, counter_of}
 use Rattle.decimals.specs.Decimal.{strip_from, kept, in_limits, is_unsigned, kept_of, decimal_of}
 use Rattle.numeral.specs.Worth.{round_at, rounded_of}
 use Rattle.numeral.specs.declared.Decimal.{Decimal}
-use Rattle.numeral.specs.declared.Natural.TheVariants.{Value as NaturalValue}
-use Rattle.decimals.specs.declared.Number.TheVariants.{Value}
-use Rattle.numeral.specs.declared.Signed.TheVariants.{Value as SignedValue}
 use Rattle.text.proofs.Cases.{eq-or-ne}
 use Rattle.numeral.proofs.Integer.{integer-yes, integer-value, range-value}
 use Rattle.numeral.specs.Kept.{Kept, Normal, nothing}
@@ -31,7 +29,7 @@ use Rattle.print.proofs.Parts.{number-minus, number-unsigned, number-plain, sign
 use Rattle.print.proofs.Writing.{sign_kept}
 
 -- ---- Integers
-pub integer-back : (low high n : ℕ) → n < 10 ^ 10 → low ≤ n → n ≤ high → integer_of low high (digits_of n) ≡ NaturalValue n
+pub integer-back : (low high n : ℕ) → n < 10 ^ 10 → low ≤ n → n ≤ high → integer_of low high (digits_of n) ≡ Some n
 integer-back low high n h l m =
     sym (integer-value low high (digits_of n) (integer-yes (digits_of n) (digits-some n) (digits-within 9 n h) (digits-all n)))
     ∙ ap (in_range low high) (digits_value n)
@@ -42,7 +40,7 @@ signed-plain : (z : ℤ) → drop (cond (is_negative z) 1 0) (signed_text z) ≡
 unfolding signed_text
 signed-plain z = number-plain (is_negative z) (nat_abs z)
 
-pub counter-back : (most : ℕ) (z : ℤ) → nat_abs z < 10 ^ 10 → nat_abs z ≤ most → counter_of most (signed_text z) ≡ SignedValue z
+pub counter-back : (most : ℕ) (z : ℤ) → nat_abs z < 10 ^ 10 → nat_abs z ≤ most → counter_of most (signed_text z) ≡ Some z
 unfolding counter_of signed_as
 counter-back most z h m =
     rw (signed-minus z, signed-plain z, integer-back 0 most (nat_abs z) h (omega arith) m, sign-size z)
@@ -87,7 +85,7 @@ text-unsigned : (d : Decimal) → unsigned (decimal_text d) ≡ digits_of (nat_a
 unfolding decimal_text signed_text
 text-unsigned d = number-unsigned (is_negative d.mantissa) (nat_abs d.mantissa) (power_text d.exponent)
 
-pub decimal-back : (d : Decimal) → Kept d → decimal_of (decimal_text d) ≡ Value d
+pub decimal-back : (d : Decimal) → Kept d → decimal_of (decimal_text d) ≡ Some d
 unfolding decimal_of
 decimal-back d k =
     let s = is_negative d.mantissa in
@@ -129,15 +127,15 @@ module _ (z : ℤ) (m : nat_abs z ≤ 2 * 10 ^ 17) where
   sample-kept = record { digits = sample-digits; power = sample-power; normal = kept-normal (is_negative z) (nat_abs z) (negsuc 11) }
 
   -- what is printed is read as the sample's decimal
-  pub sample-back : decimal_of (sample_text z) ≡ Value (sample_of z)
+  pub sample-back : decimal_of (sample_text z) ≡ Some (sample_of z)
   unfolding sample_text
   sample-back = decimal-back (sample_of z) sample-kept
 
-  steps-nothing : nat_abs z ≡ 0 → rounded_of (sample_of z) ≡ SignedValue z
+  steps-nothing : nat_abs z ≡ 0 → rounded_of (sample_of z) ≡ Some z
   unfolding rounded_of kept round_at in_range signed_as is_negative
-  steps-nothing e = rw (eq-eqb (nat_abs z) 0 e) (ap SignedValue (sign_zero false ∙ sym (sign_zero (is_negative z)) ∙ ap (signed_of (is_negative z)) (sym e) ∙ sign-size z))
+  steps-nothing e = rw (eq-eqb (nat_abs z) 0 e) (ap Some (sign_zero false ∙ sym (sign_zero (is_negative z)) ∙ ap (signed_of (is_negative z)) (sym e) ∙ sign-size z))
 
-  steps-some : (nat_abs z ≡ 0 → ⊥) → rounded_of (sample_of z) ≡ SignedValue z
+  steps-some : (nat_abs z ≡ 0 → ⊥) → rounded_of (sample_of z) ≡ Some z
   unfolding rounded_of kept round_at signed_as
   steps-some e =
       let v = (strip_from (nat_abs z) 0).v in
@@ -152,5 +150,5 @@ module _ (z : ℤ) (m : nat_abs z ≤ 2 * 10 ^ 17) where
       )
 
   -- and that, rounded, is as many steps
-  pub steps_back : rounded_of (sample_of z) ≡ SignedValue z
+  pub steps_back : rounded_of (sample_of z) ≡ Some z
   steps_back = ⊎_elim steps-nothing steps-some (eq-or-ne (nat_abs z) 0)

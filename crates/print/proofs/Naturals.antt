@@ -1,4 +1,5 @@
 -- A natural number printed plain is read as a decimal that is worth it. Assumes nothing.
+use Rattle.std.proofs.Common.{Some}
 use Prim.Native.Nat.{ℕ, ◌+◌, ◌^◌, ◌≤◌, ◌<◌}
 use mathlib.Core.Bool.{true, false}
 use mathlib.Core.List.{◌++◌, append-nil}
@@ -16,8 +17,6 @@ use Rattle.numeral.specs.Digits.{is_minus, unsigned}
 use Rattle.numeral.specs.Integer.{in_range}
 use Rattle.decimals.specs.Decimal.{kept, strip_from, in_limits, decimal_of}
 use Rattle.numeral.specs.Worth.{whole_at, whole_of}
-use Rattle.numeral.specs.declared.Natural.TheVariants.{Value as NaturalValue}
-use Rattle.decimals.specs.declared.Number.TheVariants.{Value as NumberValue}
 use Rattle.numeral.proofs.Integer.{range-value}
 use Rattle.decimals.proofs.Zeros.{strip-le, strip-worth, strip-fewer}
 use Rattle.print.specs.Printed.{digits_of, number_text, signed_text, power_text}
@@ -53,14 +52,14 @@ module _ (n : ℕ) where
       rw (ne_eqb n 0 e, size-signed false v, lt-ltb v (10 ^ 18) (omega arith)) (le-leb (0 + z) 99 (omega arith)))
       (eq-or-ne n 0)
 
-  pub natural-back : n < 10 ^ 18 → decimal_of (digits_of n) ≡ NumberValue (kept false n (pos 0))
+  pub natural-back : n < 10 ^ 18 → decimal_of (digits_of n) ≡ Some (kept false n (pos 0))
   unfolding decimal_of
   natural-back h =
       let l : length (digits_of n) ≤ 18 = digits-within 17 n h in
       rw (le-leb (length (digits_of n)) 32 (omega arith), natural-minus, natural-unsigned, unsigned-form false n (pos 0) (omega arith), kept_back false n (pos 0), natural-limits h)
 
   -- ---- What is read is worth it
-  pub natural-worth : (low high : ℕ) → low ≤ n → n ≤ high → whole_of (kept false n (pos 0)) 0 low high ≡ NaturalValue n
+  pub natural-worth : (low high : ℕ) → low ≤ n → n ≤ high → whole_of (kept false n (pos 0)) 0 low high ≡ Some n
   unfolding whole_of kept whole_at
   natural-worth low high h k =
       ⊎_elim (λ (e : n ≡ 0). rw (eq-eqb n 0 e) (unfold is_negative in ap (in_range low high) (sym e) ∙ sym (range-value low high n h k)))

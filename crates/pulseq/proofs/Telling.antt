@@ -1,4 +1,5 @@
 -- Laws of what is told: the loop that lays numbers over an answer, the editions, and what each function tells. Assumes nothing.
+use Rattle.std.proofs.Common.{None, Some}
 use Prim.Native.Nat.{ℕ, zero, suc, ◌+◌, ◌-◌, ◌≤◌, ◌<◌}
 use mathlib.Core.List.{List, [], ◌∷◌, ◌++◌, append_assoc, append-nil}
 use mathlib.Core.Path.{◌≡◌, refl, sym, ap, ◌∙◌}
@@ -24,7 +25,6 @@ use Rattle.restater.specs.declared.Restated.{Restated}
 use Rattle.lookups.specs.Spots.{spot_number, spot_start, spot_length, definition_spot, stored_spot}
 use Rattle.lookups.specs.declared.Spot.{Spot}
 use Rattle.pulseq.specs.Exports.{told, read_numbers, ReadTold, edition_of, expand_numbers, expand_samples, expand_answer, ExpandTold, write_numbers, write_output, write_answer, WriteTold, restate_numbers, restate_rows, restate_samples, restate_output, restate_answer, RestateTold, spot_numbers, DefinitionTold, StoredTold}
-use Rattle.pulseq.specs.declared.Named.TheVariants.{Known, Unknown}
 
 -- ---- behind the last number there is 0
 pub none-behind : (ns : List ℕ) (i : ℕ) → length ns ≤ i → 0 ≡ get_or ns i 0
@@ -84,15 +84,15 @@ telling-end {l₀} {ns} l i t h =
     sym e ∙ t.same
 
 -- ---- the edition that a number names
-pub named-13 : (n : ℕ) → n ≡ 103 → Known V13 ≡ edition_of n
+pub named-13 : (n : ℕ) → n ≡ 103 → Some V13 ≡ edition_of n
 unfolding edition_of
 named-13 n e = rw (eq-eqb n 103 e)
 
-pub named-14 : (n : ℕ) → (n ≡ 103 → ⊥) → n ≡ 104 → Known V14 ≡ edition_of n
+pub named-14 : (n : ℕ) → (n ≡ 103 → ⊥) → n ≡ 104 → Some V14 ≡ edition_of n
 unfolding edition_of
 named-14 n d e = rw (ne_eqb n 103 d, eq-eqb n 104 e)
 
-pub named_none : (n : ℕ) → (n ≡ 103 → ⊥) → (n ≡ 104 → ⊥) → Unknown ≡ edition_of n
+pub named_none : (n : ℕ) → (n ≡ 103 → ⊥) → (n ≡ 104 → ⊥) → None ≡ edition_of n
 unfolding edition_of
 named_none n d e = rw (ne_eqb n 103 d, ne_eqb n 104 e)
 
@@ -108,7 +108,7 @@ read-tells {r = r} d a b c e {answer = answer} w = record {
 
 -- ---- what expanding tells, in an edition and in none
 module _ {text : List ℕ} {num edition : ℕ} {l : List ℤ} {l' : List ℤ} {answer answer' : List ℕ} where
-  pub expand-tells : {e : Edition} → edition_of edition ≡ Known e → {r : Expanded} → Expansion e num text l r l' → {n used : ℕ} → n ≡ number_of r → used ≡ used_of r
+  pub expand-tells : {e : Edition} → edition_of edition ≡ Some e → {r : Expanded} → Expansion e num text l r l' → {n used : ℕ} → n ≡ number_of r → used ≡ used_of r
       → answer' ≡ told (length answer) (n ∷ used ∷ []) → ExpandTold text num edition l answer l' answer'
   unfolding expand_samples expand_answer
   expand-tells k d a b w = record {
@@ -116,13 +116,13 @@ module _ {text : List ℕ} {num edition : ℕ} {l : List ℤ} {l' : List ℤ} {a
     numbers = rw k (rw (a, b) at w ∙ ap (λ (x : Expanded). told (length answer) (expand_numbers x)) d.answer);
   }
 
-  pub expand-none : edition_of edition ≡ Unknown → l' ≡ zeros (length l) → answer' ≡ told (length answer) (3 ∷ 0 ∷ []) → ExpandTold text num edition l answer l' answer'
+  pub expand-none : edition_of edition ≡ None → l' ≡ zeros (length l) → answer' ≡ told (length answer) (3 ∷ 0 ∷ []) → ExpandTold text num edition l answer l' answer'
   unfolding expand_samples expand_answer
   expand-none k z w = record { samples = rw k z; numbers = rw k w }
 
 -- ---- what writing tells, in an edition and in none
 module _ {zs : List ℤ} {edition : ℕ} {l l' answer answer' : List ℕ} where
-  pub write-tells : {e : Edition} → edition_of edition ≡ Known e → {r : Written} → Writing e zs l r l' → {n size : ℕ} → n ≡ written_number r → size ≡ length_of r
+  pub write-tells : {e : Edition} → edition_of edition ≡ Some e → {r : Written} → Writing e zs l r l' → {n size : ℕ} → n ≡ written_number r → size ≡ length_of r
       → answer' ≡ told (length answer) (n ∷ size ∷ []) → WriteTold zs edition l answer l' answer'
   unfolding write_output write_answer
   write-tells k d a b w = record {
@@ -130,13 +130,13 @@ module _ {zs : List ℤ} {edition : ℕ} {l l' answer answer' : List ℕ} where
     numbers = rw k (rw (a, b) at w ∙ ap (λ (x : Written). told (length answer) (write_numbers x)) d.answer);
   }
 
-  pub write-none : edition_of edition ≡ Unknown → l' ≡ replicate (length l) 0 → answer' ≡ told (length answer) (3 ∷ 0 ∷ []) → WriteTold zs edition l answer l' answer'
+  pub write-none : edition_of edition ≡ None → l' ≡ replicate (length l) 0 → answer' ≡ told (length answer) (3 ∷ 0 ∷ []) → WriteTold zs edition l answer l' answer'
   unfolding write_output write_answer
   write-none k z w = record { output = rw k z; numbers = rw k w }
 
 -- ---- what restating tells, to a target and to none
 module _ {file site : List ℕ} {target : ℕ} {table l table' l' : List ℤ} {out out' answer answer' : List ℕ} where
-  pub restate-tells : {e : Edition} → edition_of target ≡ Known e → {r : Restated} → Restating e file site table l out r table' l' out' → {n line rows samples size : ℕ}
+  pub restate-tells : {e : Edition} → edition_of target ≡ Some e → {r : Restated} → Restating e file site table l out r table' l' out' → {n line rows samples size : ℕ}
       → n ≡ restated_number r → line ≡ restated_line r → rows ≡ rows_read r → samples ≡ samples_read r → size ≡ text_length r
       → answer' ≡ told (length answer) (n ∷ line ∷ rows ∷ samples ∷ size ∷ []) → RestateTold file site target table l out answer table' l' out' answer'
   unfolding restate_rows restate_samples restate_output restate_answer
@@ -147,7 +147,7 @@ module _ {file site : List ℕ} {target : ℕ} {table l table' l' : List ℤ} {o
     numbers = rw k (rw (a, b, c, f, g) at w ∙ ap (λ (x : Restated). told (length answer) (restate_numbers x)) d.answer);
   }
 
-  pub restate-none : edition_of target ≡ Unknown → table' ≡ zeros (length table) → l' ≡ zeros (length l) → out' ≡ replicate (length out) 0
+  pub restate-none : edition_of target ≡ None → table' ≡ zeros (length table) → l' ≡ zeros (length l) → out' ≡ replicate (length out) 0
       → answer' ≡ told (length answer) (3 ∷ 0 ∷ []) → RestateTold file site target table l out answer table' l' out' answer'
   unfolding restate_rows restate_samples restate_output restate_answer
   restate-none k x y z w = record { rows = rw k x; samples = rw k y; output = rw k z; numbers = rw k w }

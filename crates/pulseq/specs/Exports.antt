@@ -1,5 +1,6 @@
 -- What each function of the library writes: the lent tables or output, and the numbers of its answer.
-use Rattle.std.specs.Prelude.{ℕ, ◌-◌, cond, List, [], ◌∷◌, ◌++◌, ◌≡◌, eqb, ℤ, length, take, replicate}
+use Rattle.shape.specs.declared.Edition.{Edition}
+use Rattle.std.specs.Prelude.{ℕ, ◌-◌, cond, List, [], ◌∷◌, ◌++◌, ◌≡◌, eqb, ℤ, length, take, replicate, None, Option, Some}
 use Rattle.expanding.specs.Alone.{expanded_of, table_of}
 use Rattle.shape.specs.Answers.{number_of, used_of}
 use Rattle.shape.specs.declared.Edition.TheVariants.{V13, V14}
@@ -14,8 +15,6 @@ use Rattle.restater.specs.Restating.{restate_of, rows_after, samples_after, outp
 use Rattle.restater.specs.declared.Restated.{Restated}
 use Rattle.lookups.specs.Spots.{spot_number, spot_start, spot_length, definition_spot, stored_spot}
 use Rattle.lookups.specs.declared.Spot.{Spot}
-use Rattle.pulseq.specs.declared.Named.{Named}
-use Rattle.pulseq.specs.declared.Named.TheVariants.{Known, Unknown}
 
 -- ---- Numbers told in an answer of n numbers: as many as fit, and zeros behind them
 unfoldable pub told : ℕ → List ℕ → List ℕ
@@ -31,8 +30,8 @@ pub record ReadTold (file site : List ℕ) (table l : List ℤ) (answer : List �
   pub numbers : answer' ≡ told (length answer) (read_numbers (read_of file site (length table) (length l)))
 
 -- ---- The edition that a number names, 103 or 104; any other is VERSION, with zeros throughout
-unfoldable pub edition_of : ℕ → Named
-edition_of n = cond (eqb n 103) (Known V13) (cond (eqb n 104) (Known V14) Unknown)
+unfoldable pub edition_of : ℕ → Option Edition
+edition_of n = cond (eqb n 103) (Some V13) (cond (eqb n 104) (Some V14) None)
 
 abbrev pub version_numbers : List ℕ
 version_numbers = 3 ∷ 0 ∷ []
@@ -41,13 +40,13 @@ version_numbers = 3 ∷ 0 ∷ []
 abbrev pub expand_numbers : Expanded → List ℕ
 expand_numbers r = number_of r ∷ used_of r ∷ []
 
-unfoldable pub expand_samples : Named → ℕ → List ℕ → ℕ → List ℤ
-expand_samples (Known e) num text room = table_of e num text room
-expand_samples Unknown num text room = zeros room
+unfoldable pub expand_samples : (Option Edition) → ℕ → List ℕ → ℕ → List ℤ
+expand_samples (Some e) num text room = table_of e num text room
+expand_samples None num text room = zeros room
 
-unfoldable pub expand_answer : Named → ℕ → List ℕ → ℕ → List ℕ
-expand_answer (Known e) num text room = expand_numbers (expanded_of e num text room)
-expand_answer Unknown num text room = version_numbers
+unfoldable pub expand_answer : (Option Edition) → ℕ → List ℕ → ℕ → List ℕ
+expand_answer (Some e) num text room = expand_numbers (expanded_of e num text room)
+expand_answer None num text room = version_numbers
 
 pub record ExpandTold (text : List ℕ) (num edition : ℕ) (l : List ℤ) (answer : List ℕ) (l' : List ℤ) (answer' : List ℕ) : Type 0 where
   pub samples : l' ≡ expand_samples (edition_of edition) num text (length l)
@@ -57,13 +56,13 @@ pub record ExpandTold (text : List ℕ) (num edition : ℕ) (l : List ℤ) (answ
 abbrev pub write_numbers : Written → List ℕ
 write_numbers r = written_number r ∷ length_of r ∷ []
 
-unfoldable pub write_output : Named → List ℤ → ℕ → List ℕ
-write_output (Known e) zs room = output_of e zs room
-write_output Unknown zs room = replicate room 0
+unfoldable pub write_output : (Option Edition) → List ℤ → ℕ → List ℕ
+write_output (Some e) zs room = output_of e zs room
+write_output None zs room = replicate room 0
 
-unfoldable pub write_answer : Named → List ℤ → ℕ → List ℕ
-write_answer (Known e) zs room = write_numbers (written_of e zs room)
-write_answer Unknown zs room = version_numbers
+unfoldable pub write_answer : (Option Edition) → List ℤ → ℕ → List ℕ
+write_answer (Some e) zs room = write_numbers (written_of e zs room)
+write_answer None zs room = version_numbers
 
 pub record WriteTold (zs : List ℤ) (edition : ℕ) (l : List ℕ) (answer : List ℕ) (l' : List ℕ) (answer' : List ℕ) : Type 0 where
   pub output : l' ≡ write_output (edition_of edition) zs (length l)
@@ -73,21 +72,21 @@ pub record WriteTold (zs : List ℤ) (edition : ℕ) (l : List ℕ) (answer : Li
 abbrev pub restate_numbers : Restated → List ℕ
 restate_numbers r = restated_number r ∷ restated_line r ∷ rows_read r ∷ samples_read r ∷ text_length r ∷ []
 
-unfoldable pub restate_rows : Named → List ℕ → List ℕ → ℕ → ℕ → ℕ → List ℤ
-restate_rows (Known e) file site room size space = rows_after e file site room size space
-restate_rows Unknown file site room size space = zeros room
+unfoldable pub restate_rows : (Option Edition) → List ℕ → List ℕ → ℕ → ℕ → ℕ → List ℤ
+restate_rows (Some e) file site room size space = rows_after e file site room size space
+restate_rows None file site room size space = zeros room
 
-unfoldable pub restate_samples : Named → List ℕ → List ℕ → ℕ → ℕ → ℕ → List ℤ
-restate_samples (Known e) file site room size space = samples_after e file site room size space
-restate_samples Unknown file site room size space = zeros size
+unfoldable pub restate_samples : (Option Edition) → List ℕ → List ℕ → ℕ → ℕ → ℕ → List ℤ
+restate_samples (Some e) file site room size space = samples_after e file site room size space
+restate_samples None file site room size space = zeros size
 
-unfoldable pub restate_output : Named → List ℕ → List ℕ → ℕ → ℕ → ℕ → List ℕ
-restate_output (Known e) file site room size space = output_after e file site room size space
-restate_output Unknown file site room size space = replicate space 0
+unfoldable pub restate_output : (Option Edition) → List ℕ → List ℕ → ℕ → ℕ → ℕ → List ℕ
+restate_output (Some e) file site room size space = output_after e file site room size space
+restate_output None file site room size space = replicate space 0
 
-unfoldable pub restate_answer : Named → List ℕ → List ℕ → ℕ → ℕ → ℕ → List ℕ
-restate_answer (Known e) file site room size space = restate_numbers (restate_of e file site room size space)
-restate_answer Unknown file site room size space = version_numbers
+unfoldable pub restate_answer : (Option Edition) → List ℕ → List ℕ → ℕ → ℕ → ℕ → List ℕ
+restate_answer (Some e) file site room size space = restate_numbers (restate_of e file site room size space)
+restate_answer None file site room size space = version_numbers
 
 pub record RestateTold (file site : List ℕ) (target : ℕ) (table l : List ℤ) (out answer : List ℕ) (table' l' : List ℤ) (out' answer' : List ℕ) : Type 0 where
   pub rows : table' ≡ restate_rows (edition_of target) file site (length table) (length l) (length out)

@@ -8,24 +8,17 @@ ghost use Rattle.pulseq.specs.Exports.{told, edition_of, ReadTold, ExpandTold, W
 
 use shape::Edition;
 
-// What a number names: an edition, or none.
-#[derive(Clone, Copy)]
-enum Named {
-    Known(Edition),
-    Unknown,
-}
-
 // The edition that a number names: 103 is 1.3, and 104 is 1.4.
-fn edition_of(edition: u64) -> Named
+fn edition_of(edition: u64) -> Option<Edition>
     ensures { result ≡ edition_of edition }
 {
     if edition == 103 {
-        return Named::Known(Edition::V13);
+        return Some(Edition::V13);
     }
     if edition == 104 {
-        return Named::Known(Edition::V14);
+        return Some(Edition::V14);
     }
-    Named::Unknown
+    None
 }
 
 // The number at a place; 0 behind the last.
@@ -73,14 +66,14 @@ pub fn pulseq_expand(stored: &[u8], num: u64, edition: u64, samples: &mut [i64],
     ensures { ExpandTold stored.now num edition samples.old answer.old samples.new answer.new }
 {
     match edition_of(edition) {
-        Named::Known(known) => {
+        Some(known) => {
             let expanded = expanding::expand(stored, num as usize, known, samples);
             let number = expanded.number();
             let used = expanded.used() as u64;
             let numbers = [number, used];
             tell(answer, &numbers);
         }
-        Named::Unknown => {
+        None => {
             output::clear_numbers(samples, 0);
             let version = [3, 0];
             tell(answer, &version);
@@ -93,14 +86,14 @@ pub fn pulseq_write(samples: &[i64], edition: u64, out: &mut [u8], answer: &mut 
     ensures { WriteTold samples.now edition out.old answer.old out.new answer.new }
 {
     match edition_of(edition) {
-        Named::Known(known) => {
+        Some(known) => {
             let written = shape_text::write(samples, known, out);
             let number = written.number();
             let size = written.size() as u64;
             let numbers = [number, size];
             tell(answer, &numbers);
         }
-        Named::Unknown => {
+        None => {
             output::clear_bytes(out, 0);
             let refused = [3, 0];
             tell(answer, &refused);
@@ -131,7 +124,7 @@ pub fn pulseq_restate<'a>(
     ensures { RestateTold file.now site.now target rows.old samples.old out.old answer.old rows.new samples.new out.new answer.new }
 {
     match edition_of(target) {
-        Named::Known(known) => {
+        Some(known) => {
             let restated = restater::restate(file, site, known, rows, samples, out);
             let number = restated.number();
             let line = restated.line() as u64;
@@ -141,7 +134,7 @@ pub fn pulseq_restate<'a>(
             let numbers = [number, line, used, count, size];
             tell(answer, &numbers);
         }
-        Named::Unknown => {
+        None => {
             clear_all(rows, samples, out);
             let unknown = [3, 0];
             tell(answer, &unknown);

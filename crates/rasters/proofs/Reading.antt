@@ -1,4 +1,5 @@
 -- Rasters read, by the answers of the code's tests. Assumes nothing.
+use Rattle.std.proofs.Common.{None, Option, Some}
 use Prim.Native.Nat.{ℕ}
 use mathlib.Core.Bool.{true, false}
 use mathlib.Core.List.{List}
@@ -8,10 +9,6 @@ use lib.Dec.{eqb}
 use Rattle.decimals.specs.Decimal.{decimal_of}
 use Rattle.numeral.specs.Worth.{whole_of}
 use Rattle.numeral.specs.declared.Decimal.{Decimal}
-use Rattle.numeral.specs.declared.Natural.{Natural}
-use Rattle.numeral.specs.declared.Natural.TheVariants.{Value as NaturalValue, Bad as NaturalBad}
-use Rattle.decimals.specs.declared.Number.{Number}
-use Rattle.decimals.specs.declared.Number.TheVariants.{Value as NumberValue, Bad as NumberBad}
 use Rattle.unit.specs.declared.Nanos.{Nanos}
 use Rattle.unit.specs.declared.Rasters.{Rasters}
 use Rattle.shape.specs.declared.Edition.{Edition}
@@ -19,17 +16,17 @@ use Rattle.shape.specs.declared.Edition.TheVariants.{V13, V14}
 use Rattle.rasters.specs.Rasters.{whole_or0, worth_of, raster_of, text_of, rasters_of, lacks_first, lacks, gradient_key, rf_key, adc_key, block_key}
 
 -- ---- one raster
-module _ (text : List ℕ) (number : Number) (p : number ≡ decimal_of text) where
-  pub raster-none : number ≡ NumberBad → 0 ≡ raster_of text
+module _ (text : List ℕ) (number : (Option Decimal)) (p : number ≡ decimal_of text) where
+  pub raster-none : number ≡ None → 0 ≡ raster_of text
   unfolding raster_of worth_of
   raster-none e = rw (← p, e)
 
-  module _ (d : Decimal) (e : number ≡ NumberValue d) (worth : Natural) (w : worth ≡ whole_of d 9 1 1000000) where
-    pub raster-good : (ns : ℕ) → worth ≡ NaturalValue ns → ns ≡ raster_of text
+  module _ (d : Decimal) (e : number ≡ Some d) (worth : (Option ℕ)) (w : worth ≡ whole_of d 9 1 1000000) where
+    pub raster-good : (ns : ℕ) → worth ≡ Some ns → ns ≡ raster_of text
     unfolding raster_of worth_of whole_or0
     raster-good ns f = rw (← p, e, ← w, f)
 
-    pub raster-bad : worth ≡ NaturalBad → 0 ≡ raster_of text
+    pub raster-bad : worth ≡ None → 0 ≡ raster_of text
     unfolding raster_of worth_of whole_or0
     raster-bad f = rw (← p, e, ← w, f)
 

@@ -1,11 +1,8 @@
 -- Rasters. "GradientRasterTime, RadiofrequencyRasterTime, AdcRasterTime, BlockDurationRaster are decimals in seconds worth a whole 1 to 10^6 ns."
-use Rattle.std.specs.Prelude.{ℕ, Bool, ◌||◌, List, [], ◌∷◌, eqb}
+use Rattle.numeral.specs.declared.Decimal.{Decimal}
+use Rattle.std.specs.Prelude.{ℕ, Bool, ◌||◌, List, [], ◌∷◌, eqb, None, Option, Some}
 use Rattle.decimals.specs.Decimal.{decimal_of}
 use Rattle.numeral.specs.Worth.{whole_of}
-use Rattle.numeral.specs.declared.Natural.{Natural}
-use Rattle.numeral.specs.declared.Natural.TheVariants.{Value as NaturalValue, Bad as NaturalBad}
-use Rattle.decimals.specs.declared.Number.{Number}
-use Rattle.decimals.specs.declared.Number.TheVariants.{Value as NumberValue, Bad as NumberBad}
 use Rattle.unit.specs.declared.Rasters.{Rasters}
 use Rattle.shape.specs.declared.Edition.{Edition}
 use Rattle.shape.specs.declared.Edition.TheVariants.{V13, V14}
@@ -28,13 +25,13 @@ unfoldable pub block_key : List ℕ
 block_key = 66 ∷ 108 ∷ 111 ∷ 99 ∷ 107 ∷ 68 ∷ 117 ∷ 114 ∷ 97 ∷ 116 ∷ 105 ∷ 111 ∷ 110 ∷ 82 ∷ 97 ∷ 115 ∷ 116 ∷ 101 ∷ 114 ∷ []
 
 -- ---- One raster in ns, from its text; 0 where it is absent or bad. 10^9 ns are a second
-unfoldable pub whole_or0 : Natural → ℕ
-whole_or0 (NaturalValue n) = n
-whole_or0 NaturalBad = 0
+unfoldable pub whole_or0 : (Option ℕ) → ℕ
+whole_or0 (Some n) = n
+whole_or0 None = 0
 
-unfoldable pub worth_of : Number → ℕ
-worth_of (NumberValue d) = whole_or0 (whole_of d 9 1 1000000)
-worth_of NumberBad = 0
+unfoldable pub worth_of : (Option Decimal) → ℕ
+worth_of (Some d) = whole_or0 (whole_of d 9 1 1000000)
+worth_of None = 0
 
 unfoldable pub raster_of : List ℕ → ℕ
 raster_of text = worth_of (decimal_of text)

@@ -4,8 +4,6 @@
 ghost use Rattle.std.specs.Prelude.{◌≡◌};
 ghost use Rattle.rasters.specs.Rasters.{raster_of, text_of, rasters_of, lacks};
 
-use decimals::Number;
-use numeral::Natural;
 use shape::Edition;
 use unit::{Nanos, Rasters};
 
@@ -14,11 +12,11 @@ fn raster(text: &[u8]) -> Nanos
     ensures { result.0 ≡ raster_of text.now }
 {
     match decimals::read_decimal(text) {
-        Number::Value(d) => match numeral::whole_worth(d, 9, 1, 1000000) {
-            Natural::Value(ns) => Nanos(ns),
-            Natural::Bad => Nanos(0),
+        Some(d) => match numeral::whole_worth(d, 9, 1, 1000000) {
+            Some(ns) => Nanos(ns),
+            None => Nanos(0),
         },
-        Number::Bad => Nanos(0),
+        None => Nanos(0),
     }
 }
 

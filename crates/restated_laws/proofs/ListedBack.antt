@@ -1,4 +1,5 @@
 -- The lines of EXTENSIONS, as a text is restated, read back one by one. Assumes nothing.
+use Rattle.std.proofs.Common.{Some}
 use Prim.Native.Nat.{ℕ, zero, suc, ◌^◌, ◌≤◌, ◌<◌}
 use mathlib.Core.Bool.{Bool, true, false, cond}
 use mathlib.Core.List.{List, [], ◌∷◌, append-nil}
@@ -18,8 +19,6 @@ use Rattle.fields.proofs.Fields.{none_left, one_more, fields-joined}
 use Rattle.fields.proofs.Visible.{is_visible, all_visible, visible-word}
 use Rattle.numeral.specs.Digits.{is_digit, all_digits}
 use Rattle.numeral.specs.Integer.{largest_id, integer_of}
-use Rattle.numeral.specs.declared.Natural.TheVariants.{Value as NaturalValue}
-use Rattle.numeral.specs.declared.Signed.TheVariants.{Value as SignedValue}
 use Rattle.numeral.proofs.Digits.{digit-most}
 use Rattle.signed.specs.Signed.{is_negative}
 use Rattle.print.specs.Printed.{digits_of, number_text, signed_text}
@@ -116,7 +115,7 @@ word-mark : (b c : List ℕ) → mark_of (joined (extension_word ∷ b ∷ c ∷
 unfolding joined extension_word mark_of is_blank
 word-mark b c = refl
 
-pub integer-text : (low high n : ℕ) → n < 10 ^ 10 → low ≤ n → n ≤ high → integer_of low high (signed_text (pos n)) ≡ NaturalValue n
+pub integer-text : (low high n : ℕ) → n < 10 ^ 10 → low ≤ n → n ≤ high → integer_of low high (signed_text (pos n)) ≡ Some n
 integer-text low high n h l m = ap (integer_of low high) (natural-text n) ∙ integer-back low high n h l m
 
 module _ (st : State) (n : ℕ) (rows : List ℤ) (k : ℕ) where
@@ -161,7 +160,7 @@ number-first z b c = number-mark (is_negative z) (nat_abs z) _
 
 module _ (st : State) (n : ℕ) (rows : List ℤ) (k : ℕ) where
   pub label-back : (increment : Bool) → st.place ≡ Extensions (Labels increment) → (id label : ℕ) (v : ℤ) → number_at rows k 1 ≡ pos id → number_at rows k 3 ≡ v → number_at rows k 4 ≡ pos label
-      → 1 ≤ id → id ≤ largest_id → nat_abs v ≤ largest_id → 1 ≤ label → label ≤ 13 → label_value st.edition increment label (signed_text v) ≡ SignedValue v
+      → 1 ≤ id → id ≤ largest_id → nat_abs v ≤ largest_id → 1 ≤ label → label ≤ 13 → label_value st.edition increment label (signed_text v) ≡ Some v
       → Goes st n (label_line rows k) (record { line = n; cells = padded label_kind (pos id ∷ pos (cond increment 1 0) ∷ v ∷ pos label ∷ []) } ∷ []) [] st (suc n)
   unfolding label_line three_words
   label-back increment e id label v i w j a b g c d value =
@@ -245,7 +244,7 @@ pub data Listing (e : Edition) (rows : List ℤ) : Listed → ℕ → ℕ → �
       → Listing e rows Triggers n k (suc m) (record { line = n; cells = back_row e Trigger (numbers_at rows k) } ∷ rs) last end
   list-label : {last : Listed} {n k m end : ℕ} {rs : List Placed} (increment : Bool) (id label : ℕ) (v : ℤ) → is_kind rows k (pos (form_number Entry)) ≡ false → is_kind rows k (pos extension_kind) ≡ false
       → is_kind rows k (pos (form_number Trigger)) ≡ false → is_kind rows k (pos label_kind) ≡ true → number_at rows k 1 ≡ pos id → number_at rows k 2 ≡ pos (cond increment 1 0) → number_at rows k 3 ≡ v → number_at rows k 4 ≡ pos label → 1 ≤ id
-      → id ≤ largest_id → nat_abs v ≤ largest_id → 1 ≤ label → label ≤ 13 → label_value e increment label (signed_text v) ≡ SignedValue v → Listing e rows (Labels increment) (suc n) (suc k) m rs last end
+      → id ≤ largest_id → nat_abs v ≤ largest_id → 1 ≤ label → label ≤ 13 → label_value e increment label (signed_text v) ≡ Some v → Listing e rows (Labels increment) (suc n) (suc k) m rs last end
       → Listing e rows (Labels increment) n k (suc m) (record { line = n; cells = padded label_kind (pos id ∷ pos (cond increment 1 0) ∷ v ∷ pos label ∷ []) } ∷ rs) last end
 
 abbrev pub listed_at : Edition → List Bool → ℕ → Listed → State

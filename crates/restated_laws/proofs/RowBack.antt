@@ -1,8 +1,8 @@
 -- A row that a text was restated with reads back by its columns. Assumes nothing.
+use Rattle.std.proofs.Common.{Some}
 use Prim.Native.Nat.{ℕ, ◌≤◌}
 use mathlib.Core.Bool.{Bool, true, false, cond, true≢false}
 use mathlib.Core.List.{List, [], ◌∷◌, ◌++◌}
-use mathlib.Core.Option.{some}
 use mathlib.Core.Path.{◌≡◌, refl, sym, ap, ◌∙◌}
 use borrow.Author.Tests.{le-ltb, eqb-true}
 use lib.Dec.{eqb}
@@ -57,7 +57,7 @@ own-texts (Decimal ∷ ks) vs =
 own-texts (Dwell ∷ ks) vs = ap (λ (ws : List (List ℕ)). signed_text (get_or vs 0 (pos 0)) ∷ ws) (own-texts ks (drop 1 vs))
 own-texts (Absent ∷ ks) vs = own-texts ks (drop 1 vs)
 
-pub own_back : (ks : List Kind) (vs : List ℤ) → InRange ks (own_of ks vs) → row_from ks (fields_of (row_text ks vs)) ≡ some (own_of ks vs)
+pub own_back : (ks : List Kind) (vs : List ℤ) → InRange ks (own_of ks vs) → row_from ks (fields_of (row_text ks vs)) ≡ Some (own_of ks vs)
 own_back ks vs r = ap (row_from ks) (fields-row ks vs ∙ sym (own-texts ks vs)) ∙ row_back r
 
 -- ---- A line of no control bytes is one line

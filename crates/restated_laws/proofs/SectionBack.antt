@@ -1,4 +1,5 @@
 -- VERSION and the sections of rows, as a text is restated, read back: no line is at fault, and the rows are those that were said. Assumes nothing.
+use Rattle.std.proofs.Common.{None, Some}
 use Prim.Native.Nat.{ℕ, zero, suc, ◌+◌, ◌/◌, ◌%◌, ◌^◌, min, ◌≤◌, ◌<◌}
 use mathlib.Core.Bool.{Bool, true, false, cond, not, true≢false}
 use mathlib.Core.List.{List, [], ◌∷◌, ◌++◌, append-nil}
@@ -14,7 +15,6 @@ use Rattle.text.specs.Lines.{onto}
 use Rattle.text.proofs.Cases.{and_both}
 use Rattle.signed.specs.Signed.{largest}
 use Rattle.unit.specs.Time.{in_micros}
-use Rattle.unit.specs.declared.InMicros.TheVariants.{Whole, Between}
 use Rattle.text.specs.Marks.{is_blank, mark_of, is_comment, is_control, any_control, breaks_line}
 use Rattle.text.specs.declared.Mark.TheVariants.{Section as SectionLine}
 use Rattle.text.specs.Blanks.{blank_len}
@@ -39,7 +39,7 @@ use Rattle.sections.specs.Entering.{may_enter, entered, enter_of, section_at, se
 use Rattle.sections.specs.Version.{major_word, minor_word, revision_word, version_row, edition_of, minor_row, version_step}
 use Rattle.places.specs.Places.{went_of, fresh}
 use Rattle.places.specs.declared.Lines.{Lines}
-use Rattle.places.specs.declared.Lines.TheVariants.{None, Rows}
+use Rattle.places.specs.declared.Lines.TheVariants.{None as NoLines, Rows}
 use Rattle.places.specs.declared.Place.{Place}
 use Rattle.places.specs.declared.Place.TheVariants.{Start, Version, Section, Extensions, Head, Values, Signature}
 use Rattle.places.specs.declared.State.{State}
@@ -57,7 +57,7 @@ use Rattle.restated_laws.proofs.RowBack.{own_of, plain-line, row_plain, row-line
 
 -- ---- VERSION: the file stands in no section, its edition is the target
 abbrev pub versioned : Edition → State
-versioned target = record { place = Section None; edition = target; seen = set (replicate 12 false) 1 true; samples = 0 }
+versioned target = record { place = Section NoLines; edition = target; seen = set (replicate 12 false) 1 true; samples = 0 }
 
 pub line_of : (l : List ℕ) → any_control l ≡ false → {st next : State} {n : ℕ} → step_of st n l ≡ went_of next → Goes st n (l ++ (10 ∷ [])) [] [] next (suc n)
 line_of l c e = goes-went l (plain-line l c) e
@@ -253,7 +253,7 @@ pub micros-most : (rows : List ℤ) (k : ℕ) → micros_at rows k ≤ nanos_at 
 unfolding micros_at whole_micros in_micros
 micros-most rows k = go (eqb (nanos_at rows k % 1000) 0)
   where
-    go : (b : Bool) → whole_micros (cond b (Whole (record { 0 = nanos_at rows k / 1000 })) Between) ≤ nanos_at rows k / 1000
+    go : (b : Bool) → whole_micros (cond b (Some (record { 0 = nanos_at rows k / 1000 })) None) ≤ nanos_at rows k / 1000
     go true = omega arith
     go false = omega arith
 

@@ -1,4 +1,5 @@
 -- SHAPES, as a text is restated, reads back: each shape's row, at the place where the samples before it end. Assumes nothing.
+use Rattle.std.proofs.Common.{Some}
 use Prim.Native.Nat.{ℕ, zero, suc, ◌+◌, min, ◌≤◌, ◌<◌}
 use mathlib.Core.Bool.{Bool, cond, true, false}
 use mathlib.Core.List.{List, [], ◌∷◌, ◌++◌, append_assoc, map}
@@ -18,7 +19,6 @@ use Rattle.fields.proofs.Fields.{fields-word, fields-last}
 use Rattle.fields.proofs.Visible.{is_visible, all_visible, visible_plain, visible-word, visible-line}
 use Rattle.signed.specs.Signed.{largest}
 use Rattle.numeral.specs.Integer.{largest_id}
-use Rattle.numeral.specs.declared.Natural.TheVariants.{Value as NaturalValue}
 use Rattle.print.specs.Printed.{signed_text}
 use Rattle.print.proofs.Figures.{signed-visible, signed_word}
 use Rattle.numeral.specs.declared.Decimal.{Decimal}
@@ -68,7 +68,7 @@ module _ (word : List ℕ) (visible : all_visible word ≡ true) (some : 1 ≤ l
   pair-short : length pair ≤ 1024
   pair-short = let s = signed-short (pos n) (omega arith) in omega (arith, length-append word (32 ∷ signed_text (pos n)))
 
-  pair-number : (low high : ℕ) → low ≤ n → n ≤ high → word_number_of word low high (fields_of pair) ≡ NaturalValue n
+  pair-number : (low high : ℕ) → low ≤ n → n ≤ high → word_number_of word low high (fields_of pair) ≡ Some n
   unfolding word_number_of
   pair-number low high l m = rw (pair-fields, same_refl word) (integer-text low high n (omega arith) l m)
 
@@ -113,14 +113,14 @@ unfolding num_samples_word
 count-few = omega arith
 
 -- ---- `shape_id N` where shapes stand, and `num_samples N` behind it
-id-step : (st : State) (n id : ℕ) (t : List ℕ) → word_number_of shape_id_word 1 largest_id (fields_of t) ≡ NaturalValue id → plain_step st n t (Section Shapes) ≡ went_of (moved_of st (Head (pos id) n))
+id-step : (st : State) (n id : ℕ) (t : List ℕ) → word_number_of shape_id_word 1 largest_id (fields_of t) ≡ Some id → plain_step st n t (Section Shapes) ≡ went_of (moved_of st (Head (pos id) n))
 unfolding plain_step lines_step head_step head_row
 id-step st n id t e = rw e
 
 abbrev pub shape_row : State → ℕ → ℕ → List ℤ
 shape_row st id num = padded shape_kind (pos id ∷ pos num ∷ pos (min st.samples largest) ∷ [])
 
-count-step : (st : State) (n m id num : ℕ) (t : List ℕ) → word_number_of num_samples_word 1 (most_of Count) (fields_of t) ≡ NaturalValue num
+count-step : (st : State) (n m id num : ℕ) (t : List ℕ) → word_number_of num_samples_word 1 (most_of Count) (fields_of t) ≡ Some num
     → plain_step st n t (Head (pos id) m) ≡ gave_of (counted_of st num) m (shape_row st id num)
 unfolding plain_step count_step count_row
 count-step st n m id num t e = rw e

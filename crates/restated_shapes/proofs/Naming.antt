@@ -1,9 +1,9 @@
 -- What the lines of a text name, beside the definitions and the rows that they give: a key each definition, a name each row of an extension, and its
 -- code is the name's. Assumes nothing.
+use Rattle.std.proofs.Common.{Option, None, Some}
 use Prim.Native.Nat.{ℕ, suc}
 use mathlib.Core.Bool.{Bool, true, false, cond, ◌&&◌, true≢false}
 use mathlib.Core.List.{List, [], ◌∷◌, ◌++◌}
-use mathlib.Core.Option.{Option, none, some}
 use mathlib.Core.Path.{◌≡◌, refl, sym, ap, ◌∙◌}
 use native.Mathlib.Omega.{arith}
 use lib.Dec.{eqb}
@@ -18,8 +18,6 @@ use Rattle.fields.specs.Fields.{fields_of}
 use Rattle.signed.specs.Signed.{same_z}
 use Rattle.signed.proofs.Sign.{same_z-refl, same_z-true}
 use Rattle.numeral.specs.Integer.{largest_id, integer_of}
-use Rattle.numeral.specs.declared.Natural.{Natural}
-use Rattle.numeral.specs.declared.Natural.TheVariants.{Value as NaturalValue, Bad as NaturalBad}
 use Rattle.shape.specs.Stored.{item_of}
 use Rattle.shape.specs.declared.Item.{Item}
 use Rattle.shape.specs.declared.Item.TheVariants.{Value as ItemValue, Skipped, Bad as ItemBad}
@@ -39,7 +37,7 @@ use Rattle.places.specs.Places.{fresh, went_of, refused_of}
 use Rattle.places.specs.declared.Due.{Due}
 use Rattle.places.specs.declared.Due.TheVariants.{Major, Minor, Revision}
 use Rattle.places.specs.declared.Lines.{Lines}
-use Rattle.places.specs.declared.Lines.TheVariants.{None, Definitions, Rows, Shapes}
+use Rattle.places.specs.declared.Lines.TheVariants.{None as NoLines, Definitions, Rows, Shapes}
 use Rattle.places.specs.declared.Listed.{Listed}
 use Rattle.places.specs.declared.Listed.TheVariants.{Entries, Triggers, Labels, Unknown}
 use Rattle.places.specs.declared.Place.{Place}
@@ -56,7 +54,6 @@ use Rattle.file.specs.Rows.{Placed, row_at, rows_from, rows_of}
 use Rattle.file_laws.proofs.Padded.{own-number}
 use Rattle.definitions.specs.Definitions.{Definition, definition_at, definitions_from, definitions_of}
 use Rattle.duplicates.specs.declared.Sort.TheVariants.{Key, Name}
-use Rattle.duplicates.specs.declared.Once.TheVariants.{Nothing as NoWord, Word as OnceWord}
 use Rattle.duplicates.specs.Words.{row_names, found_names, once_of, word_of, Word, words_in, word_at, words_from, words_of}
 use Rattle.restated_shapes.proofs.Front.{kind-is, no-extension}
 
@@ -124,15 +121,15 @@ module _ (st : State) (n : ℕ) (name : List ℕ) where
   section-named k Values = enter-named k
   section-named k Signature = refused _
 
-  version-named : (next : State) (v : Natural) → Named name (version_row st next v)
+  version-named : (next : State) (v : (Option ℕ)) → Named name (version_row st next v)
   unfolding version_row
-  version-named next (NaturalValue v) = went next
-  version-named next NaturalBad = refused _
+  version-named next (Some v) = went next
+  version-named next None = refused _
 
-  minor-named : (v : Natural) → Named name (minor_row st v)
+  minor-named : (v : (Option ℕ)) → Named name (minor_row st v)
   unfolding minor_row
-  minor-named (NaturalValue v) = went _
-  minor-named NaturalBad = refused _
+  minor-named (Some v) = went _
+  minor-named None = refused _
 
   due-named : (fields : List (List ℕ)) (due : Due) → Named name (version_step st fields due)
   unfolding version_step
@@ -146,8 +143,8 @@ module _ (st : State) (n : ℕ) (name : List ℕ) where
   row_named form fields = go (row_from (columns_of st.edition form) fields)
     where
       go : (o : Option (List ℤ)) → Named name (given_row st n (row_is form o))
-      go none = refused _
-      go (some vs) = gave st n (form_number form) vs (no-extension form)
+      go None = refused _
+      go (Some vs) = gave st n (form_number form) vs (no-extension form)
 
   label-named : (increment : Bool) (l : HeadLine) → Named name (label_row st n increment l)
   unfolding label_row
@@ -162,15 +159,15 @@ module _ (st : State) (n : ℕ) (name : List ℕ) where
   listed-named fields (Labels increment) = label-named increment (label_of st.edition increment fields)
   listed-named fields Unknown = went st
 
-  head-named : (v : Natural) → Named name (head_row st n v)
+  head-named : (v : (Option ℕ)) → Named name (head_row st n v)
   unfolding head_row
-  head-named (NaturalValue id) = went _
-  head-named NaturalBad = refused _
+  head-named (Some id) = went _
+  head-named None = refused _
 
-  count-named : (id : ℤ) (m : ℕ) (v : Natural) → Named name (count_row st id m v)
+  count-named : (id : ℤ) (m : ℕ) (v : (Option ℕ)) → Named name (count_row st id m v)
   unfolding count_row
-  count-named id m (NaturalValue num) = gave _ m 11 _ refl
-  count-named id m NaturalBad = refused _
+  count-named id m (Some num) = gave _ m 11 _ refl
+  count-named id m None = refused _
 
   value-named : (i : Item) → Named name (value_row st i)
   unfolding value_row
@@ -180,18 +177,18 @@ module _ (st : State) (n : ℕ) (name : List ℕ) where
 
   lines-named : (line : List ℕ) (lines : Lines) → Named name (lines_step st n line lines)
   unfolding lines_step definition_step head_step
-  lines-named line None = refused _
+  lines-named line NoLines = refused _
   lines-named line Definitions = either (is_definition line) _ _ defined (refused _)
   lines-named line (Rows form) = row_named form (fields_of line)
   lines-named line Shapes = head-named (word_number_of shape_id_word 1 largest_id (fields_of line))
 
   -- `extension NAME type`
-  named-row : (v : Natural) → Named name (extension_row st n (extension_head v (place_of extension_names name)))
+  named-row : (v : (Option ℕ)) → Named name (extension_row st n (extension_head v (place_of extension_names name)))
   unfolding extension_row extension_head
-  named-row (NaturalValue type) =
+  named-row (Some type) =
       let vs = pos type ∷ pos (place_of extension_names name) ∷ [] in
       record { coded = λ e k. record { kind = kind-is extension_kind vs; code = own-number extension_kind vs (omega arith) 1 } }
-  named-row NaturalBad = refused _
+  named-row None = refused _
 
 module _ (st : State) (n : ℕ) where
   extension-named : (fields : List (List ℕ)) → Named (get_or fields 1 []) (extension_row st n (extension_of fields))
@@ -245,7 +242,7 @@ module _ (n : ℕ) (l : List ℕ) (r : Stepped) (named : Named (get_or (fields_o
   names-row c = go (same_z (get_or r.cells 0 (pos 0)) (pos extension_kind)) refl
     where
       go : (b : Bool) → same_z (get_or r.cells 0 (pos 0)) (pos extension_kind) ≡ b
-          → Names (words_in n l (cond b (OnceWord Name) NoWord) ++ ws) ds (record { line = r.line; cells = r.cells } ∷ rs)
+          → Names (words_in n l (cond b (Some Name) None) ++ ws) ds (record { line = r.line; cells = r.cells } ∷ rs)
       go true e = names-name n (get_or (fields_of l) 1 []) _ (c (same_z-true (get_or r.cells 0 (pos 0)) (pos extension_kind) e)) x
       go false e = names-other _ e x
 

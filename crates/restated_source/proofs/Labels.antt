@@ -1,4 +1,5 @@
 -- A label's value, printed, reads back as the value that was read. Assumes nothing.
+use Rattle.std.proofs.Common.{None, Option, Some}
 use Prim.Native.Nat.{ℕ, ◌≤◌}
 use mathlib.Core.Bool.{Bool, true, false, cond, ◌&&◌, true≢false}
 use mathlib.Core.List.{List, [], ◌∷◌}
@@ -10,10 +11,6 @@ use lib.IntN.{ℤ, pos, nat_abs}
 use Rattle.text.specs.Words.{place_of}
 use Rattle.signed.specs.Signed.{signed_of}
 use Rattle.numeral.specs.Integer.{largest_id, integer_of, signed_as, counter_of}
-use Rattle.numeral.specs.declared.Natural.{Natural}
-use Rattle.numeral.specs.declared.Natural.TheVariants.{Value as NaturalValue, Bad as NaturalBad}
-use Rattle.numeral.specs.declared.Signed.{Signed}
-use Rattle.numeral.specs.declared.Signed.TheVariants.{Value as SignedValue, Bad as SignedBad}
 use Rattle.numeral.proofs.Integer.{integer-inv}
 use Rattle.print.specs.Printed.{signed_text}
 use Rattle.print.proofs.Back.{counter-back}
@@ -24,54 +21,54 @@ use Rattle.heads.specs.declared.Head.{Head}
 use Rattle.heads.specs.declared.Head.TheVariants.{Label, Extension, Bad}
 use Rattle.restated_laws.proofs.ListedBack.{integer-text}
 
-abbrev is_value : Signed → Bool
-is_value (SignedValue v) = true
-is_value SignedBad = false
+abbrev is_value : (Option ℤ) → Bool
+is_value (Some v) = true
+is_value None = false
 
-not-value : {v : ℤ} → SignedBad ≡ SignedValue v → ⊥
+not-value : {v : ℤ} → None ≡ Some v → ⊥
 not-value e = true≢false (sym (ap is_value e))
 
 -- ---- A number without a sign
 module _ (most : ℕ) (few : most ≤ largest_id) (field : List ℕ) (v : ℤ) where
-  natural-again : signed_as false (integer_of 0 most field) ≡ SignedValue v → signed_as false (integer_of 0 most (signed_text v)) ≡ SignedValue v
+  natural-again : signed_as false (integer_of 0 most field) ≡ Some v → signed_as false (integer_of 0 most (signed_text v)) ≡ Some v
   unfolding signed_as signed_of
   natural-again e = go (integer_of 0 most field) refl e
     where
-      go : (n : Natural) → integer_of 0 most field ≡ n → signed_as false n ≡ SignedValue v → signed_as false (integer_of 0 most (signed_text v)) ≡ SignedValue v
-      go (NaturalValue n) q p =
+      go : (n : (Option ℕ)) → integer_of 0 most field ≡ n → signed_as false n ≡ Some v → signed_as false (integer_of 0 most (signed_text v)) ≡ Some v
+      go (Some n) q p =
           let m = (integer-inv 0 most field n q).most in
           let same : v ≡ pos n = cc in
           rw (same, integer-text 0 most n (omega arith) (omega arith) m)
-      go NaturalBad q p = absurd (not-value p)
+      go None q p = absurd (not-value p)
 
 -- ---- What an edition reads is read in 1.4, which has all labels
 module _ (label : ℕ) (field : List ℕ) (v : ℤ) (small : nat_abs v ≤ largest_id) where
-  counter-again : counter_of largest_id (signed_text v) ≡ SignedValue v
+  counter-again : counter_of largest_id (signed_text v) ≡ Some v
   counter-again = counter-back largest_id v (omega arith) small
 
-  set-again : (e : Edition) → set_value e label field ≡ SignedValue v → set_value V14 label (signed_text v) ≡ SignedValue v
+  set-again : (e : Edition) → set_value e label field ≡ Some v → set_value V14 label (signed_text v) ≡ Some v
   unfolding set_value is_v14
   set-again e = go (leb 1 label && leb label 9) (leb 10 label && leb label 12) (eqb label 13) (is_v14 e)
     where
       go : (a b c d : Bool)
-          → cond a (counter_of largest_id field) (cond b (signed_as false (integer_of 0 1 field)) (cond (c && d) (signed_as false (integer_of 0 largest_id field)) SignedBad)) ≡ SignedValue v
-          → cond a (counter_of largest_id (signed_text v)) (cond b (signed_as false (integer_of 0 1 (signed_text v))) (cond (c && true) (signed_as false (integer_of 0 largest_id (signed_text v))) SignedBad))
-          ≡ SignedValue v
+          → cond a (counter_of largest_id field) (cond b (signed_as false (integer_of 0 1 field)) (cond (c && d) (signed_as false (integer_of 0 largest_id field)) None)) ≡ Some v
+          → cond a (counter_of largest_id (signed_text v)) (cond b (signed_as false (integer_of 0 1 (signed_text v))) (cond (c && true) (signed_as false (integer_of 0 largest_id (signed_text v))) None))
+          ≡ Some v
       go true b c d p = counter-again
       go false true c d p = natural-again 1 (omega arith) field v p
       go false false true true p = natural-again largest_id (omega arith) field v p
       go false false true false p = absurd (not-value p)
       go false false false d p = absurd (not-value p)
 
-  increment-again : increment_value label field ≡ SignedValue v → increment_value label (signed_text v) ≡ SignedValue v
+  increment-again : increment_value label field ≡ Some v → increment_value label (signed_text v) ≡ Some v
   unfolding increment_value
   increment-again = go (leb 1 label && leb label 9)
     where
-      go : (a : Bool) → cond a (counter_of largest_id field) SignedBad ≡ SignedValue v → cond a (counter_of largest_id (signed_text v)) SignedBad ≡ SignedValue v
+      go : (a : Bool) → cond a (counter_of largest_id field) None ≡ Some v → cond a (counter_of largest_id (signed_text v)) None ≡ Some v
       go true p = counter-again
       go false p = absurd (not-value p)
 
-  value-again : (e : Edition) (increment : Bool) → label_value e increment label field ≡ SignedValue v → label_value V14 increment label (signed_text v) ≡ SignedValue v
+  value-again : (e : Edition) (increment : Bool) → label_value e increment label field ≡ Some v → label_value V14 increment label (signed_text v) ≡ Some v
   unfolding label_value
   value-again e true p = increment-again p
   value-again e false p = set-again e p
@@ -90,14 +87,14 @@ is_label Bad = false
 not-label : {id label : ℕ} {v : ℤ} → Bad ≡ Label id v label → ⊥
 not-label e = true≢false (sym (ap is_label e))
 
-head-value : (i : Natural) (x : Signed) (k id : ℕ) (v : ℤ) (label : ℕ) → label_head i x k ≡ Label id v label → (x ≡ SignedValue v) × (k ≡ label)
+head-value : (i : (Option ℕ)) (x : (Option ℤ)) (k id : ℕ) (v : ℤ) (label : ℕ) → label_head i x k ≡ Label id v label → (x ≡ Some v) × (k ≡ label)
 unfolding label_head
-head-value (NaturalValue i) (SignedValue x) k id v label e = (cc, cc)
-head-value (NaturalValue i) SignedBad k id v label e = absurd (not-label e)
-head-value NaturalBad x k id v label e = absurd (not-label e)
+head-value (Some i) (Some x) k id v label e = (cc, cc)
+head-value (Some i) None k id v label e = absurd (not-label e)
+head-value None x k id v label e = absurd (not-label e)
 
 pub label-again : (e : Edition) (increment : Bool) (fs : List (List ℕ)) (id : ℕ) (v : ℤ) (label : ℕ) → nat_abs v ≤ largest_id → label_of e increment fs ≡ Label id v label
-    → label_value V14 increment label (signed_text v) ≡ SignedValue v
+    → label_value V14 increment label (signed_text v) ≡ Some v
 unfolding label_of label_fields
 label-again e increment [] id v label small p = absurd (not-label p)
 label-again e increment (f ∷ []) id v label small p = absurd (not-label p)

@@ -1,9 +1,9 @@
 -- The rows of EXTENSIONS stand in a file in the order in which they can be read: entries, then the rows of each extension behind its line. Assumes nothing.
+use Rattle.std.proofs.Common.{Option, None, Some}
 use Prim.Native.Nat.{ℕ, suc, min, ◌≤◌, ◌<◌}
 use mathlib.Core.Bool.{Bool, true, false, cond, not, true≢false}
 use mathlib.Core.List.{List, [], ◌∷◌, ◌++◌}
 use mathlib.Core.Logic.{⊎_elim}
-use mathlib.Core.Option.{Option, none, some}
 use mathlib.Core.Path.{◌≡◌, refl, sym, subst, ◌∙◌}
 use native.Mathlib.Omega.{arith}
 use borrow.Author.Tests.{ne_eqb, not-true}
@@ -19,9 +19,6 @@ use Rattle.text.proofs.Cases.{and_both, eq-or-ne}
 use Rattle.fields.specs.Fields.{fields_of}
 use Rattle.signed.specs.Signed.{same_z, largest}
 use Rattle.numeral.specs.Integer.{largest_id}
-use Rattle.numeral.specs.declared.Natural.{Natural}
-use Rattle.numeral.specs.declared.Natural.TheVariants.{Value as NaturalValue, Bad as NaturalBad}
-use Rattle.numeral.specs.declared.Signed.TheVariants.{Value as SignedValue}
 use Rattle.print.specs.Printed.{signed_text}
 use Rattle.shape.specs.Stored.{item_of}
 use Rattle.shape.specs.declared.Edition.TheVariants.{V14}
@@ -51,7 +48,7 @@ use Rattle.places.specs.declared.Fault.TheVariants.{Line as LineFault, Version a
 use Rattle.places.specs.declared.Found.{Found}
 use Rattle.places.specs.declared.Found.TheVariants.{Nothing, Row as FoundRow, Definition, Fault as FoundFault}
 use Rattle.places.specs.declared.Lines.{Lines}
-use Rattle.places.specs.declared.Lines.TheVariants.{None, Definitions, Rows, Shapes}
+use Rattle.places.specs.declared.Lines.TheVariants.{None as NoLines, Definitions, Rows, Shapes}
 use Rattle.places.specs.declared.Listed.{Listed}
 use Rattle.places.specs.declared.Listed.TheVariants.{Entries, Triggers, Labels, Unknown}
 use Rattle.places.specs.declared.Place.{Place}
@@ -73,7 +70,7 @@ pub data ReadAt : Listed → List ℤ → Listed → Type 0 where
   extension-row : {listed : Listed} (type code : ℕ) → 1 ≤ type → type ≤ largest_id → code ≤ 3 → ReadAt listed (padded extension_kind (pos type ∷ pos code ∷ [])) (listed_of code)
   trigger-row : (vs : List ℤ) → InRange (columns_of V14 Trigger) vs → ReadAt Triggers (padded (form_number Trigger) vs) Triggers
   label-row : (increment : Bool) (id label : ℕ) (v : ℤ) → 1 ≤ id → id ≤ largest_id → nat_abs v ≤ largest_id → 1 ≤ label → label ≤ 13
-      → label_value V14 increment label (signed_text v) ≡ SignedValue v
+      → label_value V14 increment label (signed_text v) ≡ Some v
       → ReadAt (Labels increment) (padded label_kind (pos id ∷ pos (cond increment 1 0) ∷ v ∷ pos label ∷ [])) (Labels increment)
 
 -- rows one after another
@@ -98,7 +95,7 @@ headed-first Trigger h = absurd (true≢false (sym h))
 
 -- ---- Where a file stands: in EXTENSIONS where `listed` is; before it, where it will begin; behind it, anywhere
 abbrev OutsideLines : Lines → Type 0
-OutsideLines None = Unit
+OutsideLines NoLines = Unit
 OutsideLines Definitions = Unit
 OutsideLines (Rows form) = is_headed form ≡ true
 OutsideLines Shapes = Unit
@@ -226,22 +223,22 @@ module _ (listed : Listed) where
     at-blank Signature = stays
 
     -- ---- VERSION
-    version-row : (p : Place) → PlaceFits p (met st) listed → (v : Natural) → Ordered listed (version_row st (moved_of st p) v)
+    version-row : (p : Place) → PlaceFits p (met st) listed → (v : (Option ℕ)) → Ordered listed (version_row st (moved_of st p) v)
     unfolding version_row
-    version-row p x (NaturalValue v) = moves p x
-    version-row p x NaturalBad = refuses VersionFault
+    version-row p x (Some v) = moves p x
+    version-row p x None = refuses VersionFault
 
-    minor-row : (v : Natural) → Ordered listed (minor_row st v)
+    minor-row : (v : (Option ℕ)) → Ordered listed (minor_row st v)
     unfolding minor_row
-    minor-row (NaturalValue v) =
+    minor-row (Some v) =
         goes (record { place = Version Revision; edition = edition_of v; seen = st.seen; samples = st.samples }) (record { wide = s.wide; place = tt; before = s.before })
-    minor-row NaturalBad = refuses VersionFault
+    minor-row None = refuses VersionFault
 
     at-version : (fields : List (List ℕ)) (due : Due) → Ordered listed (version_step st fields due)
     unfolding version_step
     at-version fields Major = version-row (Version Minor) tt (word_number_of major_word 1 1 fields)
     at-version fields Minor = minor-row (word_number_of minor_word 3 4 fields)
-    at-version fields Revision = version-row (Section None) tt (word_number_of revision_word 0 1 fields)
+    at-version fields Revision = version-row (Section NoLines) tt (word_number_of revision_word 0 1 fields)
 
     -- ---- rows by their columns
     by_form : (n : ℕ) (form : Form) (fields : List (List ℕ)) → ((vs : List ℤ) → InRange (columns_of st.edition form) vs → ReadAt listed (padded (form_number form) vs) listed)
@@ -250,8 +247,8 @@ module _ (listed : Listed) where
     by_form n form fields read = go (row_from (columns_of st.edition form) fields) refl
       where
         go : (o : Option (List ℤ)) → row_from (columns_of st.edition form) fields ≡ o → Ordered listed (given_row st n (row_is form o))
-        go none e = refuses FieldFault
-        go (some vs) e = gives st listed s n (padded (form_number form) vs) (read vs (row-in-range (columns_of st.edition form) fields vs e))
+        go None e = refuses FieldFault
+        go (Some vs) e = gives st listed s n (padded (form_number form) vs) (read vs (row-in-range (columns_of st.edition form) fields vs e))
 
     -- ---- sections behind VERSION
     at-definition : (line : List ℕ) → Ordered listed (definition_step st line)
@@ -262,17 +259,17 @@ module _ (listed : Listed) where
         go true = defines
         go false = refuses FieldFault
 
-    at_head : (n : ℕ) (v : Natural) → Ordered listed (head_row st n v)
+    at_head : (n : ℕ) (v : (Option ℕ)) → Ordered listed (head_row st n v)
     unfolding head_row
-    at_head n (NaturalValue id) = moves (Head (pos id) n) tt
-    at_head n NaturalBad = refuses FieldFault
+    at_head n (Some id) = moves (Head (pos id) n) tt
+    at_head n None = refuses FieldFault
 
-    at_count : (z : ℤ) (n : ℕ) (v : Natural) → Ordered listed (count_row st z n v)
+    at_count : (z : ℤ) (n : ℕ) (v : (Option ℕ)) → Ordered listed (count_row st z n v)
     unfolding count_row counted_of
-    at_count z n (NaturalValue num) =
+    at_count z n (Some num) =
         gives (counted_of st num) listed (record { wide = s.wide; place = tt; before = s.before }) n _
         (other-kind listed shape_kind (z ∷ pos num ∷ pos (min st.samples largest) ∷ []) (omega arith) (λ k (l : 7 ≤ k) (m : k ≤ 10) (e : 11 ≡ k). omega arith))
-    at_count z n NaturalBad = refuses FieldFault
+    at_count z n None = refuses FieldFault
 
     at_value : (i : Item) → Ordered listed (value_row st i)
     unfolding value_row
@@ -282,7 +279,7 @@ module _ (listed : Listed) where
 
     at-lines : (n : ℕ) (line : List ℕ) (lines : Lines) → OutsideLines lines → Ordered listed (lines_step st n line lines)
     unfolding lines_step head_step
-    at-lines n line None x = refuses VersionFault
+    at-lines n line NoLines x = refuses VersionFault
     at-lines n line Definitions x = at-definition line
     at-lines n line (Rows form) x =
         let first = headed-first form x in

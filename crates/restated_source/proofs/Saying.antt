@@ -1,4 +1,6 @@
 -- What is not UNSAYABLE of a table: known extensions, no ONCE in 1.3.1, and durations that the target has numbers for. Assumes nothing.
+use Rattle.std.proofs.Common.{None, Option, Some}
+use Rattle.unit.specs.declared.RasterCount.{RasterCount}
 use Prim.Native.Nat.{ℕ, suc, min, ◌^◌, ◌≤◌, ◌<◌}
 use mathlib.Core.Bool.{Bool, true, false, cond, ◌||◌}
 use mathlib.Core.List.{List}
@@ -10,8 +12,6 @@ use lib.IntN.{ℤ, pos}
 use Rattle.signed.specs.Signed.{largest}
 use Rattle.numeral.specs.Integer.{largest_id}
 use Rattle.unit.specs.Time.{on_raster}
-use Rattle.unit.specs.declared.OnRaster.{OnRaster}
-use Rattle.unit.specs.declared.OnRaster.TheVariants.{Steps, Off}
 use Rattle.unit.specs.declared.Rasters.{Rasters}
 use Rattle.shape.specs.declared.Edition.{Edition}
 use Rattle.shape.specs.declared.Edition.TheVariants.{V13, V14}
@@ -62,10 +62,10 @@ module _ (target : Edition) (q s : Rasters) (rows : List ℤ) (n : ℕ) (said : 
   on-raster v k h = (rows-14 v k h).1
 
 -- ---- A block's duration: in 1.4 whole rasters, in 1.3.1 a delay's ID
-steps-few : (r : OnRaster) → not_steps r ≡ false → steps_of r ≤ 10 ^ 9
+steps-few : (r : (Option RasterCount)) → not_steps r ≡ false → steps_of r ≤ 10 ^ 9
 unfolding not_steps steps_of
-steps-few (Steps c) e = ltb-false (10 ^ 9) c.0 e
-steps-few Off e = omega arith
+steps-few (Some c) e = ltb-false (10 ^ 9) c.0 e
+steps-few None e = omega arith
 
 pub delay-few : (rows : List ℤ) (n k : ℕ) → delay_number rows n k ≤ n
 unfolding delay_number

@@ -1,8 +1,8 @@
 -- A printed row reads back as that row. Assumes nothing.
+use Rattle.std.proofs.Common.{Some}
 use Prim.Native.Nat.{ℕ, ◌^◌, ◌≤◌, ◌<◌}
 use mathlib.Core.Bool.{Bool, true, false, cond}
 use mathlib.Core.List.{List, [], ◌∷◌}
-use mathlib.Core.Option.{some}
 use mathlib.Core.Path.{◌≡◌, refl, ap, sym, ◌∙◌}
 use native.Mathlib.Omega.{arith}
 use lib.IntN.{ℤ, pos}
@@ -109,19 +109,19 @@ texts-words (k ∷ ks) vs = go (is_absent k) refl (texts-words ks (drop (width_o
     go false e p = one_more (field-word k vs e) p
 
 -- ---- The law
-one-some : (v : ℤ) (vs : List ℤ) → with (One v) (some vs) ≡ some (v ∷ vs)
+one-some : (v : ℤ) (vs : List ℤ) → with (One v) (Some vs) ≡ Some (v ∷ vs)
 unfolding with
 one-some v vs = refl
 
-two-some : (a b : ℤ) (vs : List ℤ) → with (Two a b) (some vs) ≡ some (a ∷ b ∷ vs)
+two-some : (a b : ℤ) (vs : List ℤ) → with (Two a b) (Some vs) ≡ Some (a ∷ b ∷ vs)
 unfolding with
 two-some a b vs = refl
 
-last-back : row_from [] (texts_of [] []) ≡ some []
+last-back : row_from [] (texts_of [] []) ≡ Some []
 unfolding row_from texts_of
 last-back = refl
 
-pub row_back : {ks : List Kind} {vs : List ℤ} → InRange ks vs → row_from ks (texts_of ks vs) ≡ some vs
+pub row_back : {ks : List Kind} {vs : List ℤ} → InRange ks vs → row_from ks (texts_of ks vs) ≡ Some vs
 row_back no_more = last-back
 row_back (no_field {ks} {vs} r) =
     ap (row_from (Absent ∷ ks)) (texts-absent ks (pos 0) vs)
@@ -142,5 +142,5 @@ unfolding row_text
 fields-row ks vs = fields-joined (texts-words ks vs)
 
 pub printed-row-back : (edition : Edition) (form : Form) (vs : List ℤ) → InRange (columns_of edition form) vs
-    → row_from (columns_of edition form) (fields_of (row_text (columns_of edition form) vs)) ≡ some vs
+    → row_from (columns_of edition form) (fields_of (row_text (columns_of edition form) vs)) ≡ Some vs
 printed-row-back edition form vs r = ap (row_from (columns_of edition form)) (fields-row (columns_of edition form) vs) ∙ row_back r

@@ -1,7 +1,7 @@
 -- A row of twelve numbers, zeros behind its own, reads back when printed as its own numbers. Assumes nothing.
+use Rattle.std.proofs.Common.{Some}
 use Prim.Native.Nat.{◌-◌}
 use mathlib.Core.List.{List, [], ◌∷◌, ◌++◌}
-use mathlib.Core.Option.{some}
 use mathlib.Core.Path.{◌≡◌, refl, ap}
 use lib.IntN.{ℤ, pos}
 use lib.ListN.{length, drop, replicate}
@@ -37,6 +37,6 @@ row-zeros r zs = ap joined (texts-zeros r zs)
 
 -- ---- The law
 pub padded-row-back : (edition : Edition) (form : Form) {vs : List ℤ} → InRange (columns_of edition form) vs
-    → row_from (columns_of edition form) (fields_of (row_text (columns_of edition form) (drop 1 (padded (form_number form) vs)))) ≡ some vs
+    → row_from (columns_of edition form) (fields_of (row_text (columns_of edition form) (drop 1 (padded (form_number form) vs)))) ≡ Some vs
 padded-row-back edition form {vs} r =
     rw (padded-own (form_number form) vs (row_fits edition form r), row-zeros r (replicate (11 - length vs) (pos 0))) (printed-row-back edition form vs r)

@@ -1,4 +1,5 @@
 -- What a field is worth in a column, in the words of the definitions; and that it is as wide as the column. Assumes nothing.
+use Rattle.std.proofs.Common.{None, Option, Some}
 use Prim.{Unit}
 use Prim.Native.Nat.{ℕ, min, ◌≤◌}
 use mathlib.Core.Bool.{true, false}
@@ -12,10 +13,6 @@ use Rattle.decimals.specs.Decimal.{decimal_of}
 use Rattle.numeral.specs.Worth.{whole_of}
 use Rattle.numeral.specs.Inside.{Held}
 use Rattle.numeral.specs.declared.Decimal.{Decimal}
-use Rattle.numeral.specs.declared.Natural.{Natural}
-use Rattle.numeral.specs.declared.Natural.TheVariants.{Value as NaturalValue, Bad as NaturalBad}
-use Rattle.decimals.specs.declared.Number.{Number}
-use Rattle.decimals.specs.declared.Number.TheVariants.{Value as NumberValue, Bad as NumberBad}
 use Rattle.numeral.proofs.Outcomes.{held-size, held-integer, whole-range}
 use Rattle.columns.specs.Columns.{is_absent, least_of, most_of, width_of}
 use Rattle.rows.specs.Cells.{natural_cell, decimal_cell, dwell_cell, integer_cell, cell_of}
@@ -25,11 +22,11 @@ use Rattle.rows.specs.declared.Cell.{Cell}
 use Rattle.rows.specs.declared.Cell.TheVariants.{One, Two, Bad}
 
 -- ---- A size that an i64 holds
-natural-good : (m : Natural) (n : ℕ) (z : ℤ) → m ≡ NaturalValue n → n ≤ largest → z ≡ signed_of false (min n largest) → One z ≡ natural_cell m
+natural-good : (m : (Option ℕ)) (n : ℕ) (z : ℤ) → m ≡ Some n → n ≤ largest → z ≡ signed_of false (min n largest) → One z ≡ natural_cell m
 unfolding natural_cell signed_of
 natural-good m n z e h p = rw e (ap One (p ∙ held-size false n h))
 
-natural-bad : (m : Natural) → m ≡ NaturalBad → Bad ≡ natural_cell m
+natural-bad : (m : (Option ℕ)) → m ≡ None → Bad ≡ natural_cell m
 unfolding natural_cell
 natural-bad m e = rw e
 
@@ -38,34 +35,34 @@ module _ (kind : Kind) (field : List ℕ) (low high : ℕ) (l : low ≡ least_of
   same : integer_of low high field ≡ integer_of (least_of kind) (most_of kind) field
   same = rw (l, h)
 
-  pub integer-good : (n : ℕ) (z : ℤ) → integer_of low high field ≡ NaturalValue n → z ≡ signed_of false (min n largest) → One z ≡ integer_cell kind field
+  pub integer-good : (n : ℕ) (z : ℤ) → integer_of low high field ≡ Some n → z ≡ signed_of false (min n largest) → One z ≡ integer_cell kind field
   unfolding integer_cell Held
-  integer-good n z e p = natural-good _ n z (sym same ∙ e) (held-integer low high field (NaturalValue n) (sym e)) p
+  integer-good n z e p = natural-good _ n z (sym same ∙ e) (held-integer low high field (Some n) (sym e)) p
 
-  pub integer-none : integer_of low high field ≡ NaturalBad → Bad ≡ integer_cell kind field
+  pub integer-none : integer_of low high field ≡ None → Bad ≡ integer_cell kind field
   unfolding integer_cell
   integer-none e = natural-bad _ (sym same ∙ e)
 
 -- ---- A decimal
-pub decimal-good : (x : Number) (d : Decimal) (m e : ℤ) → x ≡ NumberValue d → m ≡ d.mantissa → e ≡ d.exponent → Two m e ≡ decimal_cell x
+pub decimal-good : (x : (Option Decimal)) (d : Decimal) (m e : ℤ) → x ≡ Some d → m ≡ d.mantissa → e ≡ d.exponent → Two m e ≡ decimal_cell x
 unfolding decimal_cell
 decimal-good x d m e q a b = rw (q, a, b)
 
-pub decimal-none : (x : Number) → x ≡ NumberBad → Bad ≡ decimal_cell x
+pub decimal-none : (x : (Option Decimal)) → x ≡ None → Bad ≡ decimal_cell x
 unfolding decimal_cell
 decimal-none x q = rw q
 
 -- ---- A dwell
-module _ (x : Number) (d : Decimal) (q : x ≡ NumberValue d) where
-  pub dwell-good : (n : ℕ) (z : ℤ) → whole_of d 0 1 1000000000 ≡ NaturalValue n → z ≡ signed_of false (min n largest) → One z ≡ dwell_cell x
+module _ (x : (Option Decimal)) (d : Decimal) (q : x ≡ Some d) where
+  pub dwell-good : (n : ℕ) (z : ℤ) → whole_of d 0 1 1000000000 ≡ Some n → z ≡ signed_of false (min n largest) → One z ≡ dwell_cell x
   unfolding dwell_cell
   dwell-good n z e p = let h = (whole-range d 0 1 1000000000 n e).1 in rw q (natural-good _ n z e (omega arith) p)
 
-  pub dwell-off : whole_of d 0 1 1000000000 ≡ NaturalBad → Bad ≡ dwell_cell x
+  pub dwell-off : whole_of d 0 1 1000000000 ≡ None → Bad ≡ dwell_cell x
   unfolding dwell_cell
   dwell-off e = rw q (natural-bad _ e)
 
-pub dwell-none : (x : Number) → x ≡ NumberBad → Bad ≡ dwell_cell x
+pub dwell-none : (x : (Option Decimal)) → x ≡ None → Bad ≡ dwell_cell x
 unfolding dwell_cell
 dwell-none x q = rw q
 
@@ -91,20 +88,20 @@ cell_width (One v) w = w ≡ 1
 cell_width (Two a b) w = w ≡ 2
 cell_width Bad w = Unit
 
-natural-wide : (m : Natural) → cell_width (natural_cell m) 1
+natural-wide : (m : (Option ℕ)) → cell_width (natural_cell m) 1
 unfolding natural_cell
-natural-wide (NaturalValue n) = refl
-natural-wide NaturalBad = tt
+natural-wide (Some n) = refl
+natural-wide None = tt
 
-decimal-wide : (x : Number) → cell_width (decimal_cell x) 2
+decimal-wide : (x : (Option Decimal)) → cell_width (decimal_cell x) 2
 unfolding decimal_cell
-decimal-wide (NumberValue d) = refl
-decimal-wide NumberBad = tt
+decimal-wide (Some d) = refl
+decimal-wide None = tt
 
-dwell-wide : (x : Number) → cell_width (dwell_cell x) 1
+dwell-wide : (x : (Option Decimal)) → cell_width (dwell_cell x) 1
 unfolding dwell_cell
-dwell-wide (NumberValue d) = natural-wide (whole_of d 0 1 1000000000)
-dwell-wide NumberBad = tt
+dwell-wide (Some d) = natural-wide (whole_of d 0 1 1000000000)
+dwell-wide None = tt
 
 integer-wide : (k : Kind) (f : List ℕ) → cell_width (integer_cell k f) 1
 unfolding integer_cell

@@ -1,9 +1,9 @@
 -- A line cut off a text and read as a row; and that only a plain line is one. Assumes nothing.
+use Rattle.std.proofs.Common.{Option, None, Some}
 use Prim.Native.Nat.{ℕ, ◌+◌, ◌-◌, ◌≤◌, ◌<◌}
 use mathlib.Core.Bool.{Bool, true, false, cond, not, false≢true}
 use mathlib.Core.List.{List, [], ◌∷◌}
 use mathlib.Core.Logic.{⊎_elim}
-use mathlib.Core.Option.{Option, none, some}
 use mathlib.Core.Path.{◌≡◌, refl, sym, ap, ◌∙◌}
 use native.Mathlib.Omega.{arith}
 use borrow.Author.Tests.{not-false}
@@ -37,7 +37,7 @@ use Rattle.rows.proofs.Rows.{row-short, no_row}
 use Rattle.rows.proofs.Digits.{none-there, word-there, no-digits}
 
 -- ---- No row where there is none
-pub placed-bad : (row : Row) (next : ℕ) (r : RowLine) → row ≡ row_is Block none → r ≡ placed_row row next → r.good ≡ true → ⊥
+pub placed-bad : (row : Row) (next : ℕ) (r : RowLine) → row ≡ row_is Block None → r ≡ placed_row row next → r.good ≡ true → ⊥
 unfolding placed_row row_is
 placed-bad row next r p q e = false≢true (sym (ap (λ (x : RowLine). x.good) q ∙ ap (λ (x : Row). x.good) p) ∙ e)
 
@@ -53,10 +53,10 @@ id-first edition Delay = refl
 id-first edition Entry = refl
 id-first edition Trigger = refl
 
-none-some : (vs : List ℤ) → none ≡ some vs → ⊥
+none-some : (vs : List ℤ) → None ≡ Some vs → ⊥
 none-some vs e = let z : ◌≡◌ {A = ℕ} 0 1 = cc in omega arith
 
-id-plain : (line : List ℕ) (ks : List Kind) (vs : List ℤ) → row_from (Id ∷ ks) (fields_of line) ≡ some vs → mark_of line ≡ Plain
+id-plain : (line : List ℕ) (ks : List Kind) (vs : List ℤ) → row_from (Id ∷ ks) (fields_of line) ≡ Some vs → mark_of line ≡ Plain
 id-plain line ks vs e =
     ⊎_elim
     (λ (h : skipped line 0 < length line). ⊎_elim
@@ -72,20 +72,20 @@ id-plain line ks vs e =
         let b = digit-most _ d in
         sym (mark-plain line (skipped line 0) refl h (λ (q : get_or line (skipped line 0) 0 ≡ 35). omega arith) (λ (q : get_or line (skipped line 0) 0 ≡ 91). omega arith))
 
-pub row_plain : (edition : Edition) (form : Form) (line : List ℕ) (vs : List ℤ) → row_from (columns_of edition form) (fields_of line) ≡ some vs → mark_of line ≡ Plain
+pub row_plain : (edition : Edition) (form : Form) (line : List ℕ) (vs : List ℤ) → row_from (columns_of edition form) (fields_of line) ≡ Some vs → mark_of line ≡ Plain
 row_plain edition form line vs e = id-plain line (drop 1 (columns_of edition form)) vs (rw (id-first edition form) at e)
 
 -- ---- What LINE refuses is no row, and no comment is one
 module _ (edition : Edition) (form : Form) (line : List ℕ) where
-  pub row-broken : breaks_line line ≡ true → row_is Block none ≡ allowed_row edition form line
+  pub row-broken : breaks_line line ≡ true → row_is Block None ≡ allowed_row edition form line
   unfolding allowed_row
-  row-broken e = rw e (no_row form none refl)
+  row-broken e = rw e (no_row form None refl)
 
   pub row-allowed : breaks_line line ≡ false → row_is form (row_from (columns_of edition form) (fields_of line)) ≡ allowed_row edition form line
   unfolding allowed_row
   row-allowed e = rw e
 
-  row_is_lem : {o : Option (List ℤ)} → row_from (columns_of edition form) (fields_of line) ≡ o → allowed_row edition form line ≡ row_is form (cond (breaks_line line) none o)
+  row_is_lem : {o : Option (List ℤ)} → row_from (columns_of edition form) (fields_of line) ≡ o → allowed_row edition form line ≡ row_is form (cond (breaks_line line) None o)
   unfolding allowed_row
   row_is_lem p = rw p
 
@@ -94,25 +94,25 @@ module _ (edition : Edition) (form : Form) (line : List ℕ) where
   not-comment = refl
 
   -- no row, whether LINE refuses the line or not
-  row-none : row_from (columns_of edition form) (fields_of line) ≡ none → row_is Block none ≡ allowed_row edition form line
+  row-none : row_from (columns_of edition form) (fields_of line) ≡ None → row_is Block None ≡ allowed_row edition form line
   row-none p = either (breaks_line line) ∙ sym (row_is_lem p)
     where
-      either : (b : Bool) → row_is Block none ≡ row_is form (cond b none none)
-      either true = no_row form none refl
-      either false = no_row form none refl
+      either : (b : Bool) → row_is Block None ≡ row_is form (cond b None None)
+      either true = no_row form None refl
+      either false = no_row form None refl
 
-  pub row-control : any_control line ≡ true → row_is Block none ≡ allowed_row edition form line
+  pub row-control : any_control line ≡ true → row_is Block None ≡ allowed_row edition form line
   row-control e =
       ⊎_elim (λ (h : 1024 < length line). row-broken (sym (breaks-long line h)))
       (λ (h : length line ≤ 1024). go h (row_from (columns_of edition form) (fields_of line)) refl)
       (lt-or-ge 1024 (length line))
     where
-      go : length line ≤ 1024 → (o : Option (List ℤ)) → row_from (columns_of edition form) (fields_of line) ≡ o → row_is Block none ≡ allowed_row edition form line
-      go h none p = row-none p
-      go h (some vs) p = row-broken (sym (breaks-other line h (mark_of line) refl Plain (row_plain edition form line vs p) not-comment) ∙ e)
+      go : length line ≤ 1024 → (o : Option (List ℤ)) → row_from (columns_of edition form) (fields_of line) ≡ o → row_is Block None ≡ allowed_row edition form line
+      go h None p = row-none p
+      go h (Some vs) p = row-broken (sym (breaks-other line h (mark_of line) refl Plain (row_plain edition form line vs p) not-comment) ∙ e)
 
 -- an empty line is none
-empty-none : (edition : Edition) (form : Form) → row_from (columns_of edition form) (fields_of []) ≡ none
+empty-none : (edition : Edition) (form : Form) → row_from (columns_of edition form) (fields_of []) ≡ None
 unfolding fields_of
 empty-none edition form = rw (id-first edition form) (row-short Id (drop 1 (columns_of edition form)) refl)
 
@@ -161,14 +161,14 @@ module _ (text : List ℕ) (at : ℕ) (r : Piece) (p : r ≡ cut_at text at) whe
     placed-as e = q ∙ rw (e, cut-next)
 
     -- a byte that only a comment may hold, no line at all, a long line, and a line that may stand in a file
-    pub row-unclean : row ≡ row_is Block none → r.clean ≡ false → a ≡ line_row_of edition form text at
+    pub row-unclean : row ≡ row_is Block None → r.clean ≡ false → a ≡ line_row_of edition form text at
     row-unclean e f = placed-as (e ∙ row-control edition form (bare_of (drop at text)) (not-false _ (sym clean_is ∙ f)))
 
-    pub row-past : row ≡ row_is Block none → length text < r.stop → a ≡ line_row_of edition form text at
+    pub row-past : row ≡ row_is Block None → length text < r.stop → a ≡ line_row_of edition form text at
     row-past e h = placed-as (e ∙ rw (cut-past h) (row-none edition form [] (empty-none edition form)))
 
     module _ (h : r.stop ≤ length text) where
-      pub row-long : row ≡ row_is Block none → 1024 < r.stop - at → a ≡ line_row_of edition form text at
+      pub row-long : row ≡ row_is Block None → 1024 < r.stop - at → a ≡ line_row_of edition form text at
       row-long e k = placed-as (e ∙ row-broken edition form (bare_of (drop at text)) (sym (breaks-long (bare_of (drop at text)) (rw (cut-long h) k))))
 
       pub row_cut : row ≡ row_is form (row_from (columns_of edition form) (fields_of (take (r.stop - at) (drop at text)))) → r.clean ≡ true → r.stop - at ≤ 1024
@@ -191,7 +191,7 @@ unfolding line_row_of placed_row allowed_row row_is
 good-row edition form text at r p e = go (breaks_line (bare_of (drop at text))) (row_from (columns_of edition form) (fields_of (bare_of (drop at text)))) refl refl (ap (λ (x : RowLine). x.good) p) (ap (λ (x : RowLine). x.cells) p) (ap (λ (x : RowLine). x.next) p)
   where
     go : (b : Bool) (o : Option (List ℤ)) → breaks_line (bare_of (drop at text)) ≡ b → row_from (columns_of edition form) (fields_of (bare_of (drop at text))) ≡ o
-        → r.good ≡ (row_is form (cond b none o)).good → r.cells ≡ (row_is form (cond b none o)).cells → r.next ≡ (line_at text at).next → GoodRow edition form text at r
+        → r.good ≡ (row_is form (cond b None o)).good → r.cells ≡ (row_is form (cond b None o)).cells → r.next ≡ (line_at text at).next → GoodRow edition form text at r
     go true o f q g c n = absurd (false≢true (sym g ∙ e))
-    go false none f q g c n = absurd (false≢true (sym g ∙ e))
-    go false (some vs) f q g c n = record { allowed = f; plain = row_plain edition form (bare_of (drop at text)) vs q; row = rw (q, c); next = n }
+    go false None f q g c n = absurd (false≢true (sym g ∙ e))
+    go false (Some vs) f q g c n = record { allowed = f; plain = row_plain edition form (bare_of (drop at text)) vs q; row = rw (q, c); next = n }

@@ -1,9 +1,9 @@
 -- Digits of a line gathered up to a blank, and that they are the integer of a column. Assumes nothing.
+use Rattle.std.proofs.Common.{None}
 use Prim.Native.Nat.{ℕ, suc, ◌+◌, ◌*◌, ◌-◌, ◌^◌, ◌≤◌, ◌<◌, min}
 use mathlib.Core.Bool.{true, false, ◌&&◌, and-false, false≢true}
 use mathlib.Core.List.{List, [], ◌∷◌}
 use mathlib.Core.Logic.{⊎_elim}
-use mathlib.Core.Option.{none}
 use mathlib.Core.Path.{◌≡◌, refl, sym, ap, ◌∙◌}
 use native.Mathlib.Nat.{add-zero, zero-add, lt_of_lt_of_le, pow-le-pow_right, pow-suc}
 use native.Mathlib.Numerals.{add-one}
@@ -25,7 +25,6 @@ use Rattle.fields.proofs.Places.{word_end, field_is}
 use Rattle.fields.proofs.Cut.{field-at, no_field}
 use Rattle.numeral.specs.Digits.{is_digit, all_digits, value_from, value_of}
 use Rattle.numeral.specs.Integer.{in_range, is_integer, integer_of}
-use Rattle.numeral.specs.declared.Natural.TheVariants.{Bad as NaturalBad}
 use Rattle.numeral.proofs.Digits.{digit-yes, digit_low, digit-high}
 use Rattle.numeral.proofs.Integer.{range-low, range-above, range-value, integer-bad, integer-value}
 use Rattle.columns.specs.Columns.{is_absent, least_of, most_of}
@@ -175,7 +174,7 @@ module _ (low high start : ℕ) (w : List ℕ) (h : 1 ≤ length w) where
   unfolding is_integer
   whole = rw (le-leb 1 (length w) h, zero-add)
 
-  gathered-bad : gathered_of 0 0 start w ≡ Bad → integer_of low high w ≡ NaturalBad
+  gathered-bad : gathered_of 0 0 start w ≡ Bad → integer_of low high w ≡ None
   unfolding gathered_of
   gathered-bad e =
       sym (integer-bad low high w (whole ∙ cond_no (leb (0 + length w) 10 && all_digits w) Bad (λ q. let z : ◌≡◌ {A = ℕ} 0 1 = cc in omega arith) e))
@@ -221,20 +220,20 @@ module _ {line : List ℕ} {at start : ℕ} (t : WordThere line at start) (kind 
   row-integer ks = rw (t.field, ← (digits-cell kind d (word_at line start))) (row_field kind ks _ _ (digits-present kind d))
 
   module _ {low high : ℕ} (l : low ≡ least_of kind) (h : high ≡ most_of kind) where
-    refused : integer_of low high (word_at line start) ≡ NaturalBad → (ks : List Kind) → row_from (kind ∷ ks) (fields_of (drop at line)) ≡ none
+    refused : integer_of low high (word_at line start) ≡ None → (ks : List Kind) → row_from (kind ∷ ks) (fields_of (drop at line)) ≡ None
     refused e ks = row-integer ks ∙ with-bad _ _ (sym (integer-none kind (word_at line start) low high l h e))
 
-    pub took-bad : gathered_of 0 0 start (word_at line start) ≡ Bad → (ks : List Kind) → row_from (kind ∷ ks) (fields_of (drop at line)) ≡ none
+    pub took-bad : gathered_of 0 0 start (word_at line start) ≡ Bad → (ks : List Kind) → row_from (kind ∷ ks) (fields_of (drop at line)) ≡ None
     took-bad e = refused (gathered-bad low high start (word_at line start) t.some e)
 
     module _ {v stop : ℕ} (e : gathered_of 0 0 start (word_at line start) ≡ Digits v stop) where
       read : (integer_of low high (word_at line start) ≡ in_range low high v) × (start + length (word_at line start) ≡ stop)
       read = gathered-good low high start (word_at line start) t.some v stop e
 
-      pub took-low : v < low → (ks : List Kind) → row_from (kind ∷ ks) (fields_of (drop at line)) ≡ none
+      pub took-low : v < low → (ks : List Kind) → row_from (kind ∷ ks) (fields_of (drop at line)) ≡ None
       took-low p = refused (read.0 ∙ sym (range-low low high v p))
 
-      pub took-high : high < v → (ks : List Kind) → row_from (kind ∷ ks) (fields_of (drop at line)) ≡ none
+      pub took-high : high < v → (ks : List Kind) → row_from (kind ∷ ks) (fields_of (drop at line)) ≡ None
       took-high p = refused (read.0 ∙ sym (range-above low high v p))
 
       pub took_one : (z : ℤ) → low ≤ v → v ≤ high → z ≡ signed_of false (min v largest) → CellIs line at kind (One z) 1 stop
@@ -247,5 +246,5 @@ module _ {line : List ℕ} {at start : ℕ} (t : WordThere line at start) (kind 
 
 -- a word that starts with no digit
 pub no-digits : {line : List ℕ} {at start : ℕ} → WordThere line at start → start < length line → is_digit (get_or line start 0) ≡ false → is_blank (get_or line start 0) ≡ false → (kind : Kind) → by_digits kind ≡ true
-    → (ks : List Kind) → row_from (kind ∷ ks) (fields_of (drop at line)) ≡ none
+    → (ks : List Kind) → row_from (kind ∷ ks) (fields_of (drop at line)) ≡ None
 no-digits {line} {at} {start} t h e f kind d ks = took-bad t kind d refl refl (rw (word_more line start h f) (sym (gathered-other 0 0 start (get_or line start 0) (word_at line (start + 1)) e))) ks

@@ -1,8 +1,8 @@
 -- Worked examples, computed from the definitions. Assumes nothing.
+use Rattle.std.proofs.Common.{Option, None, Some}
 use Prim.Native.Nat.{ℕ}
 use mathlib.Core.Bool.{true, false}
 use mathlib.Core.List.{List, [], ◌∷◌}
-use mathlib.Core.Option.{Option, none, some}
 use mathlib.Core.Path.{◌≡◌, refl}
 use lib.IntN.{ℤ, pos, negsuc}
 use lib.ListN.{replicate}
@@ -30,15 +30,15 @@ pub data Lines : List ((Edition × Form) × (List ℕ × Option (List ℤ))) →
       → row_from (columns_of e f) (fields_of s) ≡ v → Lines r → Lines (((e, f), (s, v)) ∷ r)
 
 rows : Lines (
-    ((V14, Gradient), (51 ∷ 32 ∷ 45 ∷ 49 ∷ 46 ∷ 53 ∷ 48 ∷ 32 ∷ 50 ∷ 32 ∷ 52 ∷ 32 ∷ 49 ∷ 48 ∷ 48 ∷ [], some (pos 3 ∷ negsuc 14 ∷ negsuc 0 ∷ pos 2 ∷ pos 4 ∷ pos 100 ∷ [])))  -- 3 -1.50 2 4 100
-    ∷ ((V13, Gradient), (51 ∷ 32 ∷ 45 ∷ 49 ∷ 46 ∷ 53 ∷ 48 ∷ 32 ∷ 50 ∷ 32 ∷ 52 ∷ 32 ∷ 49 ∷ 48 ∷ 48 ∷ [], none))  -- 3 -1.50 2 4 100
-    ∷ ((V13, Gradient), (51 ∷ 32 ∷ 45 ∷ 49 ∷ 46 ∷ 53 ∷ 48 ∷ 32 ∷ 50 ∷ 32 ∷ 49 ∷ 48 ∷ 48 ∷ [], some (pos 3 ∷ negsuc 14 ∷ negsuc 0 ∷ pos 2 ∷ pos 0 ∷ pos 100 ∷ [])))  -- 3 -1.50 2 100
-    ∷ ((V14, Block), (49 ∷ 32 ∷ 55 ∷ 32 ∷ 48 ∷ 32 ∷ 48 ∷ 32 ∷ 48 ∷ 32 ∷ 48 ∷ 32 ∷ 50 ∷ 32 ∷ 48 ∷ [], some (pos 1 ∷ pos 7 ∷ pos 0 ∷ pos 0 ∷ pos 0 ∷ pos 0 ∷ pos 2 ∷ pos 0 ∷ pos 0 ∷ [])))  -- 1 7 0 0 0 0 2 0
-    ∷ ((V14, Adc), (49 ∷ 32 ∷ 52 ∷ 32 ∷ 50 ∷ 46 ∷ 53 ∷ 101 ∷ 49 ∷ 32 ∷ 48 ∷ 32 ∷ 48 ∷ 32 ∷ 48 ∷ [], some (pos 1 ∷ pos 4 ∷ pos 25 ∷ pos 0 ∷ pos 0 ∷ pos 0 ∷ pos 0 ∷ pos 0 ∷ [])))  -- 1 4 2.5e1 0 0 0
-    ∷ ((V14, Adc), (49 ∷ 32 ∷ 52 ∷ 32 ∷ 50 ∷ 46 ∷ 53 ∷ 32 ∷ 48 ∷ 32 ∷ 48 ∷ 32 ∷ 48 ∷ [], none))  -- 1 4 2.5 0 0 0
-    ∷ ((V13, Entry), (49 ∷ 32 ∷ 49 ∷ 32 ∷ 48 ∷ 32 ∷ 48 ∷ [], none))  -- 1 1 0 0
-    ∷ ((V13, Delay), (49 ∷ 32 ∷ 49 ∷ 48 ∷ 48 ∷ [], some (pos 1 ∷ pos 100 ∷ [])))  -- 1 100
-    ∷ ((V13, Delay), (49 ∷ 32 ∷ 49 ∷ 48 ∷ 48 ∷ 32 ∷ 48 ∷ [], none))  -- 1 100 0
+    ((V14, Gradient), (51 ∷ 32 ∷ 45 ∷ 49 ∷ 46 ∷ 53 ∷ 48 ∷ 32 ∷ 50 ∷ 32 ∷ 52 ∷ 32 ∷ 49 ∷ 48 ∷ 48 ∷ [], Some (pos 3 ∷ negsuc 14 ∷ negsuc 0 ∷ pos 2 ∷ pos 4 ∷ pos 100 ∷ [])))  -- 3 -1.50 2 4 100
+    ∷ ((V13, Gradient), (51 ∷ 32 ∷ 45 ∷ 49 ∷ 46 ∷ 53 ∷ 48 ∷ 32 ∷ 50 ∷ 32 ∷ 52 ∷ 32 ∷ 49 ∷ 48 ∷ 48 ∷ [], None))  -- 3 -1.50 2 4 100
+    ∷ ((V13, Gradient), (51 ∷ 32 ∷ 45 ∷ 49 ∷ 46 ∷ 53 ∷ 48 ∷ 32 ∷ 50 ∷ 32 ∷ 49 ∷ 48 ∷ 48 ∷ [], Some (pos 3 ∷ negsuc 14 ∷ negsuc 0 ∷ pos 2 ∷ pos 0 ∷ pos 100 ∷ [])))  -- 3 -1.50 2 100
+    ∷ ((V14, Block), (49 ∷ 32 ∷ 55 ∷ 32 ∷ 48 ∷ 32 ∷ 48 ∷ 32 ∷ 48 ∷ 32 ∷ 48 ∷ 32 ∷ 50 ∷ 32 ∷ 48 ∷ [], Some (pos 1 ∷ pos 7 ∷ pos 0 ∷ pos 0 ∷ pos 0 ∷ pos 0 ∷ pos 2 ∷ pos 0 ∷ pos 0 ∷ [])))  -- 1 7 0 0 0 0 2 0
+    ∷ ((V14, Adc), (49 ∷ 32 ∷ 52 ∷ 32 ∷ 50 ∷ 46 ∷ 53 ∷ 101 ∷ 49 ∷ 32 ∷ 48 ∷ 32 ∷ 48 ∷ 32 ∷ 48 ∷ [], Some (pos 1 ∷ pos 4 ∷ pos 25 ∷ pos 0 ∷ pos 0 ∷ pos 0 ∷ pos 0 ∷ pos 0 ∷ [])))  -- 1 4 2.5e1 0 0 0
+    ∷ ((V14, Adc), (49 ∷ 32 ∷ 52 ∷ 32 ∷ 50 ∷ 46 ∷ 53 ∷ 32 ∷ 48 ∷ 32 ∷ 48 ∷ 32 ∷ 48 ∷ [], None))  -- 1 4 2.5 0 0 0
+    ∷ ((V13, Entry), (49 ∷ 32 ∷ 49 ∷ 32 ∷ 48 ∷ 32 ∷ 48 ∷ [], None))  -- 1 1 0 0
+    ∷ ((V13, Delay), (49 ∷ 32 ∷ 49 ∷ 48 ∷ 48 ∷ [], Some (pos 1 ∷ pos 100 ∷ [])))  -- 1 100
+    ∷ ((V13, Delay), (49 ∷ 32 ∷ 49 ∷ 48 ∷ 48 ∷ 32 ∷ 48 ∷ [], None))  -- 1 100 0
     ∷ [])
 unfolding onto is_blank ends_field fields_of is_negative signed_of is_digit all_digits value_from is_minus sign_len in_range is_integer integer_of up_to whole fraction digits is_mantissa mantissa_part exponent_part is_exponent exponent_of strip_in strip_from kept in_limits is_unsigned kept_of decimal_of whole_at whole_of columns_of natural_cell decimal_cell dwell_cell integer_cell cell_of with row_from
 rows = next refl (next refl (next refl (next refl (next refl (next refl (next refl (next refl (next refl done))))))))

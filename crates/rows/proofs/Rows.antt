@@ -1,8 +1,8 @@
 -- One column of a row, one turn of the columns' loop, and a row laid behind its kind. Assumes nothing.
+use Rattle.std.proofs.Common.{Option, None, Some}
 use Prim.Native.Nat.{ℕ, suc, ◌+◌, ◌≤◌, ◌<◌}
 use mathlib.Core.Bool.{true, false}
 use mathlib.Core.List.{List, [], ◌∷◌}
-use mathlib.Core.Option.{Option, none, some}
 use mathlib.Core.Path.{◌≡◌, refl, sym, ap, ◌∙◌}
 use native.Mathlib.Omega.{arith}
 use native.Mathlib.Numerals.{add-one}
@@ -31,7 +31,7 @@ module _ (kind : Kind) (ks : List Kind) where
   row-absent [] e = rw e
   row-absent (f ∷ fs) e = rw e
 
-  pub row-short : is_absent kind ≡ false → row_from (kind ∷ ks) [] ≡ none
+  pub row-short : is_absent kind ≡ false → row_from (kind ∷ ks) [] ≡ None
   unfolding row_from
   row-short e = rw e
 
@@ -39,7 +39,7 @@ module _ (kind : Kind) (ks : List Kind) where
   unfolding row_from
   row_field f fs e = rw e
 
-pub with-bad : (c : Cell) (o : Option (List ℤ)) → c ≡ Bad → with c o ≡ none
+pub with-bad : (c : Cell) (o : Option (List ℤ)) → c ≡ Bad → with c o ≡ None
 unfolding with
 with-bad c o e = rw e
 
@@ -47,14 +47,14 @@ pub with-same : (c d : Cell) (o : Option (List ℤ)) → c ≡ d → with c o �
 with-same c d o e = rw e
 
 -- ---- No row is the same of every form
-pub no_row : (form : Form) (o : Option (List ℤ)) → o ≡ none → row_is Block none ≡ row_is form o
+pub no_row : (form : Form) (o : Option (List ℤ)) → o ≡ None → row_is Block None ≡ row_is form o
 unfolding row_is
 no_row form o e = rw e
 
 -- ---- The loop over the columns: what is read lies in the cells, and the rest is still to be laid behind it
 unfoldable pub laid : List ℤ → ℕ → Option (List ℤ) → Option (List ℤ)
-laid cells w none = none
-laid cells w (some vs) = some (sets cells w vs)
+laid cells w None = None
+laid cells w (Some vs) = Some (sets cells w vs)
 
 -- the cells before the first column: the kind, and zeros
 abbrev pub begun : Form → List ℤ
@@ -69,27 +69,27 @@ start edition form line cells e = record { room = room-all edition form; rest = 
 
 laid_one : (cells : List ℤ) (w : ℕ) (v : ℤ) (o : Option (List ℤ)) → laid cells w (with (One v) o) ≡ laid (set cells w v) (suc w) o
 unfolding laid with
-laid_one cells w v none = refl
-laid_one cells w v (some vs) = refl
+laid_one cells w v None = refl
+laid_one cells w v (Some vs) = refl
 
 laid-two : (cells : List ℤ) (w : ℕ) (a b : ℤ) (o : Option (List ℤ)) → laid cells w (with (Two a b) o) ≡ laid (set (set cells w a) (suc w) b) (suc (suc w)) o
 unfolding laid with
-laid-two cells w a b none = refl
-laid-two cells w a b (some vs) = refl
+laid-two cells w a b None = refl
+laid-two cells w a b (Some vs) = refl
 
-laid_nil : (cells : List ℤ) (w : ℕ) → laid cells w (some []) ≡ some cells
+laid_nil : (cells : List ℤ) (w : ℕ) → laid cells w (Some []) ≡ Some cells
 unfolding laid
 laid_nil cells w = refl
 
-laid_none : (o : Option (List ℤ)) (a b : List ℤ) (i j : ℕ) → laid a i o ≡ laid b j none → o ≡ none
+laid_none : (o : Option (List ℤ)) (a b : List ℤ) (i j : ℕ) → laid a i o ≡ laid b j None → o ≡ None
 unfolding laid
-laid_none none a b i j e = refl
-laid_none (some vs) a b i j e = absurd (let z : ◌≡◌ {A = ℕ} 0 1 = cc in omega arith)
+laid_none None a b i j e = refl
+laid_none (Some vs) a b i j e = absurd (let z : ◌≡◌ {A = ℕ} 0 1 = cc in omega arith)
 
-laid-some : (form : Form) (o : Option (List ℤ)) (cells : List ℤ) → laid (begun form) 1 o ≡ some cells → row_is form o ≡ record { good = true; cells = cells }
+laid-some : (form : Form) (o : Option (List ℤ)) (cells : List ℤ) → laid (begun form) 1 o ≡ Some cells → row_is form o ≡ record { good = true; cells = cells }
 unfolding laid row_is padded
-laid-some form none cells e = absurd (let z : ◌≡◌ {A = ℕ} 0 1 = cc in omega arith)
-laid-some form (some vs) cells e = let q : sets (begun form) 1 vs ≡ cells = cc in rw q
+laid-some form None cells e = absurd (let z : ◌≡◌ {A = ℕ} 0 1 = cc in omega arith)
+laid-some form (Some vs) cells e = let q : sets (begun form) 1 vs ≡ cells = cc in rw q
 
 widths-cut : (ks : List Kind) (j : ℕ) → j < length ks → widths_of (drop j ks) ≡ width_of (get_or ks j Absent) + widths_of (drop (suc j) ks)
 unfolding widths_of
@@ -124,7 +124,7 @@ module _ (form : Form) (line : List ℕ) (ks : List Kind) (cells : List ℤ) (at
         rest = rw (s, add-one w, add-one j) (sym (laid-two cells w a b (row_from (drop (suc j) ks) (fields_of (drop behind line)))) ∙ taken-rest (Two a b) 2 behind t);
       }
 
-  pub bad : ((ls : List Kind) → row_from (get_or ks j Absent ∷ ls) (fields_of (drop at line)) ≡ none) → row_from ks (fields_of line) ≡ none
+  pub bad : ((ls : List Kind) → row_from (get_or ks j Absent ∷ ls) (fields_of (drop at line)) ≡ None) → row_from ks (fields_of line) ≡ None
   bad f = laid_none (row_from ks (fields_of line)) (begun form) cells 1 w (sym r.rest ∙ ap (laid cells w) (rw (drop-cons ks j Absent h) (f (drop (suc j) ks))))
 
 -- behind the last column
@@ -133,6 +133,6 @@ module _ (form : Form) (line : List ℕ) (ks : List Kind) (cells : List ℤ) (at
   unfolding row_from
   good-end e = laid-some form (row_from ks (fields_of line)) cells (sym r.rest ∙ rw (e, drop_of_length-le ks h) (laid_nil cells w))
 
-  pub long-end : (f : List ℕ) (fs : List (List ℕ)) → fields_of (drop at line) ≡ f ∷ fs → row_from ks (fields_of line) ≡ none
+  pub long-end : (f : List ℕ) (fs : List (List ℕ)) → fields_of (drop at line) ≡ f ∷ fs → row_from ks (fields_of line) ≡ None
   unfolding row_from
   long-end f fs e = laid_none (row_from ks (fields_of line)) (begun form) cells 1 w (sym r.rest ∙ rw (e, drop_of_length-le ks h))

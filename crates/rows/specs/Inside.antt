@@ -1,7 +1,6 @@
 -- What the inner functions answer. Nothing here needs to be believed: laws lead from these to the definitions of the other files.
 use Prim.{Unit}
-use Rattle.std.specs.Prelude.{ℕ, ◌+◌, ◌-◌, ◌≤◌, min, Bool, true, false, cond, ◌&&◌, List, ◌∷◌, ◌≡◌, leb, length, take, drop}
-use Rattle.std.proofs.Math.Option.{none}
+use Rattle.std.specs.Prelude.{ℕ, ◌+◌, ◌-◌, ◌≤◌, min, Bool, true, false, cond, ◌&&◌, List, ◌∷◌, ◌≡◌, leb, length, take, drop, None}
 use Rattle.signed.specs.Signed.{signed_of, largest}
 use Rattle.text.specs.Lines.{bare_of}
 use Rattle.text.specs.Marks.{cut_at}
@@ -47,7 +46,7 @@ pub record CellIs (line : List ℕ) (at : ℕ) (kind : Kind) (c : Cell) (width b
 abbrev pub TakenIs : List ℕ → ℕ → Kind → Taken → Type 0
 TakenIs line at kind (TakenOne v behind) = CellIs line at kind (One v) 1 behind
 TakenIs line at kind (TakenTwo a b behind) = CellIs line at kind (Two a b) 2 behind
-TakenIs line at kind TakenBad = (ks : List Kind) → row_from (kind ∷ ks) (fields_of (drop at line)) ≡ none
+TakenIs line at kind TakenBad = (ks : List Kind) → row_from (kind ∷ ks) (fields_of (drop at line)) ≡ None
 
 -- a number in the range of a column
 abbrev pub fits_column : Kind → ℕ → Bool

@@ -1,6 +1,5 @@
 -- A line read as a row where it stands in a text: one that LINE refuses gives none.
-use Rattle.std.specs.Prelude.{ℕ, cond, List, drop}
-use Rattle.std.proofs.Math.Option.{none}
+use Rattle.std.specs.Prelude.{ℕ, cond, List, drop, None}
 use Rattle.text.specs.Lines.{bare_of, line_at}
 use Rattle.text.specs.Marks.{breaks_line}
 use Rattle.fields.specs.Fields.{fields_of}
@@ -13,7 +12,7 @@ use Rattle.rows.specs.declared.RowLine.{RowLine}
 
 -- a line that may stand in a file, read as a row
 unfoldable pub allowed_row : Edition → Form → List ℕ → Row
-allowed_row edition form line = row_is form (cond (breaks_line line) none (row_from (columns_of edition form) (fields_of line)))
+allowed_row edition form line = row_is form (cond (breaks_line line) None (row_from (columns_of edition form) (fields_of line)))
 
 -- a row, and where the line behind it starts
 unfoldable pub placed_row : Row → ℕ → RowLine

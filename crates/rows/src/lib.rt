@@ -2,7 +2,6 @@
 #![tactic(auto)]
 
 ghost use Rattle.std.specs.Prelude.{◌<◌, ◌≡◌, get_or, true, false};
-ghost use Rattle.std.proofs.Math.Option.{none};
 ghost use Rattle.fields.specs.Fields.{fields_of};
 ghost use Rattle.decimals.specs.Decimal.{decimal_of};
 ghost use Rattle.columns.specs.Columns.{columns_of, is_absent, least_of, most_of};
@@ -11,8 +10,6 @@ ghost use Rattle.rows.specs.Placed.{placed_row, line_row_of};
 ghost use Rattle.rows.specs.Inside.{by_digits, word_at, gathered_of, TakenIs, fits_column, GatheredIs, ColumnIs};
 
 use columns::{Form, Kind};
-use decimals::Number;
-use numeral::Natural;
 use shape::Edition;
 
 // What a field is worth in a column: one number of the row, or two.
@@ -97,8 +94,8 @@ fn integer_cell(kind: Kind, field: &[u8]) -> Cell
     ensures { result ≡ integer_cell kind field.now }
 {
     match numeral::read_integer(field, least_of(kind), most_of(kind)) {
-        Natural::Value(n) => Cell::One(signed::with_sign(false, n)),
-        Natural::Bad => Cell::Bad,
+        Some(n) => Cell::One(signed::with_sign(false, n)),
+        None => Cell::Bad,
     }
 }
 
@@ -107,12 +104,12 @@ fn decimal_cell(field: &[u8]) -> Cell
     ensures { result ≡ decimal_cell (decimal_of field.now) }
 {
     match decimals::read_decimal(field) {
-        Number::Value(d) => {
+        Some(d) => {
             let m = d.mantissa;
             let e = d.exponent;
             Cell::Two(m, e)
         }
-        Number::Bad => Cell::Bad,
+        None => Cell::Bad,
     }
 }
 
@@ -121,11 +118,11 @@ fn dwell_cell(field: &[u8]) -> Cell
     ensures { result ≡ dwell_cell (decimal_of field.now) }
 {
     match decimals::read_decimal(field) {
-        Number::Value(d) => match numeral::whole_worth(d, 0, 1, 1000000000) {
-            Natural::Value(n) => Cell::One(signed::with_sign(false, n)),
-            Natural::Bad => Cell::Bad,
+        Some(d) => match numeral::whole_worth(d, 0, 1, 1000000000) {
+            Some(n) => Cell::One(signed::with_sign(false, n)),
+            None => Cell::Bad,
         },
-        Number::Bad => Cell::Bad,
+        None => Cell::Bad,
     }
 }
 
@@ -247,7 +244,7 @@ fn take_cell(line: &[u8], at: usize, kind: Kind) -> Taken
 
 // No row.
 fn bad_row() -> Row
-    ensures { result ≡ row_is Form.Block none }
+    ensures { result ≡ row_is Form.Block None }
 {
     Row {
         good: false,

@@ -1,9 +1,8 @@
 -- Rows as a target says them. "rows in file order, single spaces, LF"; "IDs stay".
-use Rattle.std.specs.Prelude.{ℕ, zero, suc, min, Bool, cond, List, [], ◌∷◌, ◌++◌, ltb, ℤ, pos, drop, set}
+use Rattle.unit.specs.declared.RasterCount.{RasterCount}
+use Rattle.std.specs.Prelude.{ℕ, zero, suc, min, Bool, cond, List, [], ◌∷◌, ◌++◌, ltb, ℤ, pos, drop, set, None, Option, Some}
 use Rattle.signed.specs.Signed.{largest}
 use Rattle.unit.specs.Time.{on_raster}
-use Rattle.unit.specs.declared.OnRaster.{OnRaster}
-use Rattle.unit.specs.declared.OnRaster.TheVariants.{Steps, Off}
 use Rattle.shape.specs.declared.Edition.{Edition}
 use Rattle.shape.specs.declared.Edition.TheVariants.{V13, V14}
 use Rattle.columns.specs.Columns.{columns_of, form_number}
@@ -24,9 +23,9 @@ unfoldable pub numbers_at : List ℤ → ℕ → List ℤ
 numbers_at rows k = numbers_from rows k 0 row_width
 
 -- ---- "duration (1.3: delay ID)": what a target says for the duration of block k, of n rows
-unfoldable pub steps_of : OnRaster → ℕ
-steps_of (Steps count) = count.0
-steps_of Off = 0
+unfoldable pub steps_of : (Option RasterCount) → ℕ
+steps_of (Some count) = count.0
+steps_of None = 0
 
 unfoldable pub duration_of : Edition → ℕ → List ℤ → ℕ → ℕ → ℕ
 duration_of V13 raster rows n k = delay_number rows n k

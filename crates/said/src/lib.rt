@@ -8,7 +8,7 @@ ghost use Rattle.said.specs.Said.{numbers_at, steps_of, duration_of, duration_nu
 
 use columns::Form;
 use shape::Edition;
-use unit::{Nanos, OnRaster};
+use unit::{Nanos, RasterCount};
 
 // The twelve numbers of row k.
 pub fn numbers_at(rows: &[i64], k: usize) -> [i64; 12]
@@ -24,12 +24,12 @@ pub fn numbers_at(rows: &[i64], k: usize) -> [i64; 12]
 }
 
 // How many steps a length is; 0 where it is off the raster.
-fn steps_of(length: OnRaster) -> u64
+fn steps_of(length: Option<RasterCount>) -> u64
     ensures { result ≡ steps_of length }
 {
     match length {
-        OnRaster::Steps(count) => count.0,
-        OnRaster::Off => 0,
+        Some(count) => count.0,
+        None => 0,
     }
 }
 

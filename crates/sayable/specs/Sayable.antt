@@ -1,11 +1,9 @@
 -- UNSAYABLE, asked of the tables of a file that was read, with the length of each block in its row.
-use Rattle.std.specs.Prelude.{ℕ, ◌^◌, Bool, true, false, not, ◌&&◌, ◌||◌, List, eqb, ltb, ℤ, pos, nat_abs}
+use Rattle.unit.specs.declared.Micros.{Micros}
+use Rattle.unit.specs.declared.RasterCount.{RasterCount}
+use Rattle.std.specs.Prelude.{ℕ, ◌^◌, Bool, true, false, not, ◌&&◌, ◌||◌, List, eqb, ltb, ℤ, pos, nat_abs, None, Option, Some}
 use Rattle.signed.specs.Signed.{same_z}
 use Rattle.unit.specs.Time.{in_micros, on_raster}
-use Rattle.unit.specs.declared.InMicros.{InMicros}
-use Rattle.unit.specs.declared.InMicros.TheVariants.{Whole, Between}
-use Rattle.unit.specs.declared.OnRaster.{OnRaster}
-use Rattle.unit.specs.declared.OnRaster.TheVariants.{Steps, Off}
 use Rattle.unit.specs.declared.Rasters.{Rasters}
 use Rattle.shape.specs.declared.Edition.{Edition}
 use Rattle.shape.specs.declared.Edition.TheVariants.{V13, V14}
@@ -34,9 +32,9 @@ unfoldable pub has_time : List ℤ → ℕ → Bool
 has_time rows k = has_number rows k (pos (form_number Rf)) 6 || has_number rows k (pos (form_number Gradient)) 5
 
 -- "a block is not whole µs"
-unfoldable pub is_between : InMicros → Bool
-is_between (Whole m) = false
-is_between Between = true
+unfoldable pub is_between : (Option Micros) → Bool
+is_between (Some m) = false
+is_between None = true
 
 unfoldable pub off_micros : List ℤ → ℕ → Bool
 off_micros rows k = is_kind rows k (pos (form_number Block)) && is_between (in_micros (nanos_at rows k))
@@ -50,9 +48,9 @@ unfoldable pub differ : Rasters → Rasters → Bool
 differ q s = not (eqb q.gradient.0 s.gradient.0) || not (eqb q.rf.0 s.rf.0)
 
 -- ---- "for 1.4.1, .. a block is not 0 to 10^9 whole BlockDurationRasters"
-unfoldable pub not_steps : OnRaster → Bool
-not_steps (Steps c) = ltb (10 ^ 9) c.0
-not_steps Off = true
+unfoldable pub not_steps : (Option RasterCount) → Bool
+not_steps (Some c) = ltb (10 ^ 9) c.0
+not_steps None = true
 
 unfoldable pub off_raster : Rasters → List ℤ → ℕ → Bool
 off_raster q rows k = is_kind rows k (pos (form_number Block)) && not_steps (on_raster (nanos_at rows k) q.block.0)

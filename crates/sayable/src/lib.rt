@@ -5,7 +5,7 @@ ghost use Rattle.std.specs.Prelude.{◌≡◌};
 ghost use Rattle.sayable.specs.Sayable.{is_kind, has_number, is_between, not_steps, nanos_at, is_unknown, has_time, off_micros, names_once, off_raster, unsaid13, unsaid14, unsaid, any_unsaid, differ, unsayable};
 
 use shape::Edition;
-use unit::{InMicros, Nanos, OnRaster, Rasters};
+use unit::{Micros, Nanos, RasterCount, Rasters};
 
 // Is row k of a kind?
 pub fn is_kind(rows: &[i64], k: usize, kind: i64) -> bool
@@ -62,22 +62,22 @@ pub fn nanos_at(rows: &[i64], k: usize) -> Nanos
 }
 
 // Is this no whole number of microseconds?
-fn is_between(length: InMicros) -> bool
+fn is_between(length: Option<Micros>) -> bool
     ensures { result ≡ is_between length }
 {
     match length {
-        InMicros::Whole(_) => false,
-        InMicros::Between => true,
+        Some(_) => false,
+        None => true,
     }
 }
 
 // Is this not 0 to 10^9 whole steps?
-fn is_not_steps(length: OnRaster) -> bool
+fn is_not_steps(length: Option<RasterCount>) -> bool
     ensures { result ≡ not_steps length }
 {
     match length {
-        OnRaster::Steps(count) => 1000000000 < count.0,
-        OnRaster::Off => true,
+        Some(count) => 1000000000 < count.0,
+        None => true,
     }
 }
 

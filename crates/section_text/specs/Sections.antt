@@ -1,9 +1,8 @@
 -- Sections of a restated text. "Text: VERSION, then the sections as listed above, DELAYS after ADC, empty ones left out, rows in file order, single
 -- spaces, LF, one blank line after each section".
-use Rattle.std.specs.Prelude.{ℕ, min, Bool, cond, List, [], ◌∷◌, ltb, ℤ, pos}
+use Rattle.unit.specs.declared.Micros.{Micros}
+use Rattle.std.specs.Prelude.{ℕ, min, Bool, cond, List, [], ◌∷◌, ltb, ℤ, pos, None, Option, Some}
 use Rattle.unit.specs.Time.{in_micros}
-use Rattle.unit.specs.declared.InMicros.{InMicros}
-use Rattle.unit.specs.declared.InMicros.TheVariants.{Whole, Between}
 use Rattle.shape.specs.declared.Edition.{Edition}
 use Rattle.shape.specs.declared.Edition.TheVariants.{V13, V14}
 use Rattle.signed.specs.Signed.{largest}
@@ -40,9 +39,9 @@ unfoldable pub section_text : Edition → ℕ → Form → List ℤ → ℕ → 
 section_text target raster form rows n = section_of (has_kind (pos (form_number form)) rows n) (head_text form) (rows_text target raster form rows n)
 
 -- ---- DELAYS for 1.3.1: a row for each first use, its number and its µs
-unfoldable pub whole_micros : InMicros → ℕ
-whole_micros (Whole m) = m.0
-whole_micros Between = 0
+unfoldable pub whole_micros : (Option Micros) → ℕ
+whole_micros (Some m) = m.0
+whole_micros None = 0
 
 unfoldable pub micros_at : List ℤ → ℕ → ℕ
 micros_at rows k = whole_micros (in_micros (nanos_at rows k))

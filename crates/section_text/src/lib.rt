@@ -10,7 +10,7 @@ ghost use Rattle.section_text.specs.Inside.{new_line};
 
 use columns::Form;
 use shape::Edition;
-use unit::{InMicros, Nanos};
+use unit::{Micros, Nanos};
 
 // Writes VERSION for a target, of revision 1, with a blank line behind it.
 pub fn put_version(out: &mut [u8], at: usize, target: Edition) -> usize
@@ -59,12 +59,12 @@ pub fn put_section(
 }
 
 // Whole microseconds; 0 where there are none.
-fn whole_micros(length: InMicros) -> u64
+fn whole_micros(length: Option<Micros>) -> u64
     ensures { result ≡ whole_micros length }
 {
     match length {
-        InMicros::Whole(micros) => micros.0,
-        InMicros::Between => 0,
+        Some(micros) => micros.0,
+        None => 0,
     }
 }
 

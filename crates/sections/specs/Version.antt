@@ -1,13 +1,11 @@
 -- The rows of VERSION.
-use Rattle.std.specs.Prelude.{ℕ, cond, List, [], ◌∷◌, eqb}
-use Rattle.numeral.specs.declared.Natural.{Natural}
-use Rattle.numeral.specs.declared.Natural.TheVariants.{Value as NaturalValue, Bad as NaturalBad}
+use Rattle.std.specs.Prelude.{ℕ, cond, List, [], ◌∷◌, eqb, None, Option, Some}
 use Rattle.shape.specs.declared.Edition.{Edition}
 use Rattle.shape.specs.declared.Edition.TheVariants.{V13, V14}
 use Rattle.heads.specs.Heads.{word_number_of}
 use Rattle.places.specs.declared.Due.{Due}
 use Rattle.places.specs.declared.Due.TheVariants.{Major, Minor, Revision}
-use Rattle.places.specs.declared.Lines.TheVariants.{None}
+use Rattle.places.specs.declared.Lines.TheVariants.{None as NoLines}
 use Rattle.places.specs.declared.Place.TheVariants.{Version, Section}
 use Rattle.places.specs.declared.Fault.TheVariants.{Version as VersionFault}
 use Rattle.places.specs.declared.State.{State}
@@ -24,19 +22,19 @@ minor_word = 109 ∷ 105 ∷ 110 ∷ 111 ∷ 114 ∷ []
 unfoldable pub revision_word : List ℕ
 revision_word = 114 ∷ 101 ∷ 118 ∷ 105 ∷ 115 ∷ 105 ∷ 111 ∷ 110 ∷ []
 
-unfoldable pub version_row : State → State → Natural → Stepped
-version_row st next (NaturalValue v) = went_of next
-version_row st next NaturalBad = refused_of st VersionFault
+unfoldable pub version_row : State → State → (Option ℕ) → Stepped
+version_row st next (Some v) = went_of next
+version_row st next None = refused_of st VersionFault
 
 -- 3 or 4
 unfoldable pub edition_of : ℕ → Edition
 edition_of minor = cond (eqb minor 3) V13 V14
 
-unfoldable pub minor_row : State → Natural → Stepped
-minor_row st (NaturalValue v) = went_of (record { place = Version Revision; edition = edition_of v; seen = st.seen; samples = st.samples })
-minor_row st NaturalBad = refused_of st VersionFault
+unfoldable pub minor_row : State → (Option ℕ) → Stepped
+minor_row st (Some v) = went_of (record { place = Version Revision; edition = edition_of v; seen = st.seen; samples = st.samples })
+minor_row st None = refused_of st VersionFault
 
 unfoldable pub version_step : State → List (List ℕ) → Due → Stepped
 version_step st fields Major = version_row st (moved_of st (Version Minor)) (word_number_of major_word 1 1 fields)
 version_step st fields Minor = minor_row st (word_number_of minor_word 3 4 fields)
-version_step st fields Revision = version_row st (moved_of st (Section None)) (word_number_of revision_word 0 1 fields)
+version_step st fields Revision = version_row st (moved_of st (Section NoLines)) (word_number_of revision_word 0 1 fields)

@@ -9,7 +9,6 @@ ghost use Rattle.sections.specs.Entering.{may_enter, entered, enter_of, early_se
 ghost use Rattle.sections.specs.Version.{version_row, edition_of, minor_row, version_step};
 
 use columns::Form;
-use numeral::Natural;
 use places::{Due, Fault, Lines, Listed, Place, State, Stepped};
 use shape::Edition;
 
@@ -129,12 +128,12 @@ pub fn section_step(st: State, line: &[u8]) -> Stepped
 }
 
 // A row of VERSION that was read, and the state behind it.
-fn version_row(st: State, next: State, number: Natural) -> Stepped
+fn version_row(st: State, next: State, number: Option<u64>) -> Stepped
     ensures { result ≡ version_row st next number }
 {
     match number {
-        Natural::Value(_) => places::went(next),
-        Natural::Bad => places::refused(st, Fault::Version),
+        Some(_) => places::went(next),
+        None => places::refused(st, Fault::Version),
     }
 }
 
@@ -149,11 +148,11 @@ fn edition_of(minor: u64) -> Edition
 }
 
 // The row `minor`, which tells the edition.
-fn minor_row(st: State, number: Natural) -> Stepped
+fn minor_row(st: State, number: Option<u64>) -> Stepped
     ensures { result ≡ minor_row st number }
 {
     match number {
-        Natural::Value(v) => {
+        Some(v) => {
             let seen = st.seen;
             let samples = st.samples;
             places::went(State {
@@ -163,7 +162,7 @@ fn minor_row(st: State, number: Natural) -> Stepped
                 samples,
             })
         }
-        Natural::Bad => places::refused(st, Fault::Version),
+        None => places::refused(st, Fault::Version),
     }
 }
 

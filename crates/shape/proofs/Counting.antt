@@ -1,5 +1,6 @@
 -- Loops over stored lines: what is left at a place behind a line; where counting stands, and the laws of a start, a turn and each end. Assumes
 -- nothing.
+use Rattle.std.proofs.Common.{None, Some}
 use Prim.Native.Nat.{ℕ, ◌+◌, ◌-◌, ◌≤◌}
 use mathlib.Core.Bool.{Bool, true, false, cond}
 use mathlib.Core.List.{List, []}
@@ -13,7 +14,6 @@ use Rattle.numeral.specs.declared.Decimal.{Decimal}
 use Rattle.shape.specs.Stored.{item_of, is_sound, all_sound, with_item, values_in, values_of, values_at, count_of}
 use Rattle.shape.specs.declared.Item.{Item}
 use Rattle.shape.specs.declared.Item.TheVariants.{Value, Skipped, Bad}
-use Rattle.shape.specs.declared.Count.TheVariants.{Values, Faulty}
 
 -- ---- no line left
 pub values-end : (text : List ℕ) (at : ℕ) → length text ≤ at → values_at text at ≡ []
@@ -45,7 +45,7 @@ pub counting-start : (text : List ℕ) → Counting text 0 0
 counting-start text = record { few = omega arith; sound = refl; total = omega arith }
 
 module _ {text : List ℕ} {at n : ℕ} (p : Counting text at n) where
-  pub counting-end : length text ≤ at → Values n ≡ count_of text
+  pub counting-end : length text ≤ at → Some n ≡ count_of text
   unfolding count_of
   counting-end h =
       let e : length (values_at text at) ≡ 0 = ap length (values-end text at h) in
@@ -54,7 +54,7 @@ module _ {text : List ℕ} {at n : ℕ} (p : Counting text at n) where
       rw (← p.sound, sound-end text at h, m)
 
   module _ {r : Line} (l : LineAt text at r) where
-    pub counting-faulty : item_of (take (r.stop - at) (drop at text)) ≡ Bad → Faulty ≡ count_of text
+    pub counting-faulty : item_of (take (r.stop - at) (drop at text)) ≡ Bad → None ≡ count_of text
     unfolding count_of is_sound
     counting-faulty e = rw (← p.sound, sound-line l e false refl)
 

@@ -1,4 +1,6 @@
 -- What one stored line holds, by its fields and by its mark. Assumes nothing.
+use Rattle.std.proofs.Common.{Option}
+use Rattle.numeral.specs.declared.Decimal.{Decimal}
 use Prim.Native.Nat.{ℕ, ◌-◌, ◌<◌}
 use mathlib.Core.Bool.{true, false}
 use mathlib.Core.List.{List, [], ◌∷◌}
@@ -12,7 +14,6 @@ use Rattle.text.specs.declared.Mark.{Mark}
 use Rattle.text.specs.declared.Mark.TheVariants.{Plain}
 use Rattle.fields.specs.Fields.{fields_of}
 use Rattle.decimals.specs.Decimal.{decimal_of}
-use Rattle.decimals.specs.declared.Number.{Number}
 use Rattle.shape.specs.Stored.{number_item, fields_item, mark_item, item_of, held_at}
 use Rattle.shape.specs.declared.Held.{Held}
 use Rattle.shape.specs.declared.Item.TheVariants.{Bad}
@@ -23,7 +24,7 @@ unfolding fields_item
 item-none e = rw e
 
 module _ {fs gs : List (List ℕ)} {f : List ℕ} (e : fs ≡ f ∷ gs) where
-  pub item-one : gs ≡ [] → {n : Number} (m : Number) → n ≡ decimal_of f → n ≡ m → number_item m ≡ fields_item fs
+  pub item-one : gs ≡ [] → {n : (Option Decimal)} (m : (Option Decimal)) → n ≡ decimal_of f → n ≡ m → number_item m ≡ fields_item fs
   unfolding fields_item
   item-one h m d k = rw (e, h, ← d, k)
 

@@ -1,4 +1,5 @@
 -- Values read where they stand in a text: the digits, with a point or not, a minus in front, and an LF behind. Assumes nothing.
+use Rattle.std.proofs.Common.{Option, Some}
 use Prim.Native.Nat.{ℕ, suc, ◌+◌, ◌*◌, ◌-◌, ◌≤◌, ◌<◌}
 use mathlib.Core.Bool.{Bool, true, false}
 use mathlib.Core.List.{List, [], ◌∷◌, ◌++◌, append-nil, append_assoc}
@@ -20,8 +21,6 @@ use Rattle.numeral.specs.Digits.{is_digit, all_digits, value_from, is_minus, sig
 use Rattle.numeral.proofs.Digits.{digit-yes, digit-least, digit-most, all_digits-append, value_from-append}
 use Rattle.decimals.specs.Decimal.{digits, fraction, is_mantissa, decimal_of}
 use Rattle.decimals.specs.Inside.{large, pointed_of}
-use Rattle.decimals.specs.declared.Number.{Number}
-use Rattle.decimals.specs.declared.Number.TheVariants.{Value as NumberValue}
 use Rattle.decimals.proofs.Plain.{Parts, parts_whole, parts-point, decimal-pointed}
 use Rattle.numeral.specs.declared.Decimal.{Decimal}
 use Rattle.shape.specs.Stored.{number_item, fields_item, mark_item, item_of, held_at}
@@ -244,7 +243,7 @@ module _ (rest : List ℕ) where
   take-front (b ∷ s) = ap (λ (t : List ℕ). b ∷ t) (take-front s)
 
 -- a line that is one word and a decimal holds it
-pub word-item : (s : List ℕ) (d : Decimal) → Word s → length s ≤ 32 → all_visible s ≡ true → mark_of s ≡ Plain → decimal_of s ≡ NumberValue d → item_of s ≡ Value d
+pub word-item : (s : List ℕ) (d : Decimal) → Word s → length s ≤ 32 → all_visible s ≡ true → mark_of s ≡ Plain → decimal_of s ≡ Some d → item_of s ≡ Value d
 unfolding item_of breaks_line is_comment mark_item fields_item number_item
 word-item s d w l v m e = rw (le-ltb 1024 (length s) (omega arith), m, visible_plain s v, fields-last w, e)
 
@@ -305,7 +304,7 @@ module _ (text : List ℕ) (at start : ℕ) (minus : Bool) (g : SignFrom text at
         let small = k.small in
         rw (v, b) (rw (sign-minus minus k.front head) at (decimal-pointed line (omega arith) (rw u parts.part) (rw u mantissa) (omega arith)))
 
-    pub value-held : (n : Number) (d : Decimal) → n ≡ pointed_of minus r.v r.behind → n ≡ NumberValue d → ◌≡◌ {A = Held} (record { item = Value d; next = r.stop + 1 }) (held_at text at)
+    pub value-held : (n : (Option Decimal)) (d : Decimal) → n ≡ pointed_of minus r.v r.behind → n ≡ Some d → ◌≡◌ {A = Held} (record { item = Value d; next = r.stop + 1 }) (held_at text at)
     unfolding held_at bare_of line_at
     value-held n d p q =
         let l = line-long in

@@ -1,13 +1,9 @@
 -- From stored values to samples: whether the values are the samples themselves, and the sample that a value makes of the sum so far. Samples are
 -- counted in steps of 10^-12.
-use Rattle.std.specs.Prelude.{ℕ, ◌^◌, Bool, false, eqb, ℤ, ◌+ℤ◌}
+use Rattle.std.specs.Prelude.{ℕ, ◌^◌, Bool, false, eqb, ℤ, ◌+ℤ◌, None, Option, Some}
 use Rattle.signed.specs.Signed.{within}
-use Rattle.signed.specs.declared.Sum.{Sum}
-use Rattle.signed.specs.declared.Sum.TheVariants.{Beyond}
 use Rattle.numeral.specs.Worth.{rounded_of}
 use Rattle.numeral.specs.declared.Decimal.{Decimal}
-use Rattle.numeral.specs.declared.Signed.{Signed}
-use Rattle.numeral.specs.declared.Signed.TheVariants.{Value as SignedValue, Bad as SignedBad}
 use Rattle.shape.specs.declared.Edition.{Edition}
 use Rattle.shape.specs.declared.Edition.TheVariants.{V13, V14}
 
@@ -18,9 +14,9 @@ is_plain V14 num count = eqb count num
 
 -- ---- "Each value, a plain one too, is then rounded to a multiple of 10^-12, ties away from zero; run-length samples are running sums. A
 -- value beyond ±200,000, a sample beyond ±100,000 .. is SHAPE." 100,000 are 10^17 steps.
-unfoldable pub sum_to : ℤ → Signed → Sum
-sum_to s (SignedValue v) = within (10 ^ 17) (s +ℤ v)
-sum_to s SignedBad = Beyond
+unfoldable pub sum_to : ℤ → (Option ℤ) → Option ℤ
+sum_to s (Some v) = within (10 ^ 17) (s +ℤ v)
+sum_to s None = None
 
-unfoldable pub add_of : ℤ → Decimal → Sum
+unfoldable pub add_of : ℤ → Decimal → Option ℤ
 add_of s d = sum_to s (rounded_of d)

@@ -1,5 +1,5 @@
 -- The stored lines of a shape: "one decimal a line". One definition for whoever reads, counts or expands them.
-use Rattle.std.specs.Prelude.{ℕ, Bool, true, false, cond, ◌&&◌, List, [], ◌∷◌, length, drop}
+use Rattle.std.specs.Prelude.{ℕ, Bool, true, false, cond, ◌&&◌, List, [], ◌∷◌, length, drop, None, Option, Some}
 use Rattle.text.specs.Lines.{lines_of, bare_of, line_at}
 use Rattle.text.specs.Marks.{mark_of, breaks_line}
 use Rattle.fields.specs.Fields.{fields_of}
@@ -7,18 +7,14 @@ use Rattle.text.specs.declared.Mark.{Mark}
 use Rattle.text.specs.declared.Mark.TheVariants.{Blank, Comment, Section, Plain}
 use Rattle.decimals.specs.Decimal.{decimal_of}
 use Rattle.numeral.specs.declared.Decimal.{Decimal}
-use Rattle.decimals.specs.declared.Number.{Number}
-use Rattle.decimals.specs.declared.Number.TheVariants.{Value as NumberValue, Bad as NumberBad}
-use Rattle.shape.specs.declared.Count.{Count}
-use Rattle.shape.specs.declared.Count.TheVariants.{Values, Faulty}
 use Rattle.shape.specs.declared.Held.{Held}
 use Rattle.shape.specs.declared.Item.{Item}
 use Rattle.shape.specs.declared.Item.TheVariants.{Value, Skipped, Bad}
 
 -- ---- One line: a comment is skipped, and anything else that is not one decimal is at fault
-unfoldable pub number_item : Number → Item
-number_item (NumberValue d) = Value d
-number_item NumberBad = Bad
+unfoldable pub number_item : (Option Decimal) → Item
+number_item (Some d) = Value d
+number_item None = Bad
 
 unfoldable pub fields_item : List (List ℕ) → Item
 fields_item [] = Bad
@@ -67,5 +63,5 @@ abbrev pub values_at : List ℕ → ℕ → List Decimal
 values_at text from = values_of (drop from text)
 
 -- how many there are, or that a line is at fault
-unfoldable pub count_of : List ℕ → Count
-count_of text = cond (all_sound (lines_of text)) (Values (length (values_of text))) Faulty
+unfoldable pub count_of : List ℕ → Option ℕ
+count_of text = cond (all_sound (lines_of text)) (Some (length (values_of text))) None

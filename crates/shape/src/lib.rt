@@ -11,9 +11,7 @@ ghost use Rattle.shape.specs.Inside.{stands_at, GatheredFrom, SpelledFrom, SignF
 ghost use Rattle.shape.specs.Samples.{add_of, is_plain};
 ghost use Rattle.shape.specs.Answers.{number_of, used_of};
 
-use decimals::Number;
-use numeral::{Decimal, Signed};
-use signed::Sum;
+use numeral::Decimal;
 use text::Mark;
 
 // The rules that a file follows: those of 1.3.0 and 1.3.1, or those of 1.4.0 and 1.4.1.
@@ -97,13 +95,6 @@ enum Alone {
     Other,
 }
 
-// How many values some lines hold, or that a line is at fault.
-#[derive(Clone, Copy)]
-pub enum Count {
-    Values(usize),
-    Faulty,
-}
-
 // What the one field of a line holds; a line with none or with more is at fault. Of a plain line that may stand in a file this is what it holds.
 pub fn plain_item(line: &[u8]) -> Item
     ensures { result ≡ fields_item (fields_of line.now) }
@@ -119,8 +110,8 @@ pub fn plain_item(line: &[u8]) -> Item
         return Item::Bad;
     }
     match decimals::read_decimal(&line[start..stop]) {
-        Number::Value(d) => Item::Value(d),
-        Number::Bad => Item::Bad,
+        Some(d) => Item::Value(d),
+        None => Item::Bad,
     }
 }
 
@@ -235,8 +226,8 @@ fn signed_value(minus: bool, text: &[u8], at: usize, start: usize) -> Alone
         return Alone::Other;
     }
     match decimals::pointed(minus, number.v, number.behind) {
-        Number::Value(d) => Alone::Value(d, stop + 1),
-        Number::Bad => Alone::Other,
+        Some(d) => Alone::Value(d, stop + 1),
+        None => Alone::Other,
     }
 }
 
@@ -282,7 +273,7 @@ pub fn item_at(text: &[u8], at: usize) -> Held
 }
 
 // How many values the lines hold, if none is at fault.
-pub fn count_values(stored: &[u8]) -> Count
+pub fn count_values(stored: &[u8]) -> Option<usize>
     ensures { result ≡ count_of stored.now }
 {
     let mut at = 0;
@@ -300,11 +291,11 @@ pub fn count_values(stored: &[u8]) -> Count
                 at = behind;
             }
             Item::Bad => {
-                return Count::Faulty;
+                return None;
             }
         }
     }
-    Count::Values(n)
+    Some(n)
 }
 
 // Are so many stored values the samples themselves?
@@ -318,11 +309,11 @@ pub fn is_plain(edition: Edition, num: usize, count: usize) -> bool
 }
 
 // The sample that a value makes of the sum so far, if both are within their limits.
-pub fn add_value(sum: i64, d: Decimal) -> Sum
+pub fn add_value(sum: i64, d: Decimal) -> Option<i64>
     ensures { result ≡ add_of sum d }
 {
     match numeral::rounded(d) {
-        Signed::Value(v) => signed::plus(sum, v, 100000000000000000),
-        Signed::Bad => Sum::Beyond,
+        Some(v) => signed::plus(sum, v, 100000000000000000),
+        None => None,
     }
 }

@@ -1,4 +1,5 @@
 -- A printed count, alone in a line, is read as a decimal that is worth the count. Assumes nothing.
+use Rattle.std.proofs.Common.{Some}
 use Prim.Native.Nat.{ℕ, ◌≤◌}
 use mathlib.Core.Bool.{false}
 use mathlib.Core.List.{◌++◌, append-nil}
@@ -11,7 +12,6 @@ use Rattle.signed.specs.Signed.{same_z}
 use Rattle.decimals.specs.Decimal.{kept}
 use Rattle.numeral.specs.Worth.{whole_of}
 use Rattle.numeral.specs.declared.Decimal.{Decimal}
-use Rattle.numeral.specs.declared.Natural.TheVariants.{Value as NaturalValue}
 use Rattle.print.specs.Printed.{digits_of, number_text, power_text}
 use Rattle.print.proofs.Naturals.{natural-back, natural-worth}
 use Rattle.print.proofs.Figures.{digits-visible, digits-word}
@@ -35,5 +35,5 @@ pub count-holds : (n : ℕ) → n ≤ 1000000 → Holds (digits_of n) (repeats_o
 count-holds n h = word_holds (digits_of n) (repeats_of n) (natural-back n (omega arith)) (digits-word n) (digits-visible n) (count-mark n)
 
 -- ---- What is read is worth the count
-pub count-worth : (n : ℕ) → n ≤ 1000000 → whole_of (repeats_of n) 0 0 1000000 ≡ NaturalValue n
+pub count-worth : (n : ℕ) → n ≤ 1000000 → whole_of (repeats_of n) 0 0 1000000 ≡ Some n
 count-worth n h = natural-worth n 0 1000000 (omega arith) h

@@ -1,4 +1,5 @@
 -- A printed number is a plain line; so one that is read as a decimal holds it, as a printed sample does. Assumes nothing.
+use Rattle.std.proofs.Common.{None, Some}
 use Prim.Native.Nat.{ℕ, ◌*◌, ◌^◌, ◌≤◌, ◌<◌}
 use mathlib.Core.Bool.{Bool, true, false}
 use mathlib.Core.List.{List, [], ◌∷◌, ◌++◌}
@@ -17,7 +18,6 @@ use Rattle.signed.specs.Signed.{is_negative}
 use Rattle.numeral.specs.Digits.{is_digit, all_digits}
 use Rattle.decimals.specs.Decimal.{decimal_of}
 use Rattle.numeral.specs.declared.Decimal.{Decimal}
-use Rattle.decimals.specs.declared.Number.TheVariants.{Value as NumberValue, Bad as NumberBad}
 use Rattle.numeral.proofs.Digits.{digit-least, digit-most}
 use Rattle.decimals.proofs.Bodies.{decimal-long}
 use Rattle.print.specs.Printed.{digits_of, number_text, signed_text, power_text, decimal_text, sample_text}
@@ -47,11 +47,11 @@ number-mark true n t = unfold number_text mark_of is_blank in refl
 number-mark false n t = unfold number_text in digit-mark (digits_of n) t (digits-some n) (digits-all n)
 
 -- ---- One word that is a decimal
-module _ (s : List ℕ) (d : Decimal) (e : decimal_of s ≡ NumberValue d) where
+module _ (s : List ℕ) (d : Decimal) (e : decimal_of s ≡ Some d) where
   pub decimal-short : length s ≤ 32
   decimal-short =
       ⊎_elim (λ (l : 32 < length s).
-      let f : NumberBad ≡ NumberValue d = decimal-long s l ∙ e in
+      let f : None ≡ Some d = decimal-long s l ∙ e in
       absurd (let z : ◌≡◌ {A = ℕ} 0 1 = cc in omega arith))
       (λ (l : length s ≤ 32). l)
       (lt-or-ge 32 (length s))

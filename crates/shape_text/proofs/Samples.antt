@@ -1,4 +1,5 @@
 -- Samples within ±100,000: the loop that tests them, and how large they and their differences are. Assumes nothing.
+use Rattle.std.proofs.Common.{None, Option, Some}
 use Prim.Native.Nat.{ℕ, zero, suc, ◌+◌, ◌-◌, ◌≤◌, ◌<◌, ◌^◌}
 use mathlib.Core.Bool.{true, false, ◌&&◌}
 use mathlib.Core.List.{List, [], ◌∷◌}
@@ -12,8 +13,6 @@ use lib.Seq.{drop-cons}
 use borrow.Author.Tests.{leb-true, le-leb, lt-leb}
 use Rattle.text.proofs.Cases.{and_both}
 use Rattle.signed.specs.Signed.{within}
-use Rattle.signed.specs.declared.Sum.{Sum}
-use Rattle.signed.specs.declared.Sum.TheVariants.{Value, Beyond}
 use Rattle.signed.proofs.Sign.{abs_diff, within-value}
 use Rattle.shape_text.specs.Written.{all_within, is_writable}
 use Rattle.shape_text.specs.Inside.{step_at}
@@ -72,8 +71,8 @@ pub step-first : (zs : List ℤ) (i : ℕ) → i ≡ 0 → get_or zs i (pos 0) �
 step-first zs i e = rw e (sym (+ℤ_idr (get_or zs 0 (pos 0))))
 
 -- what `minus` answers here
-pub step-later : (zs : List ℤ) (i : ℕ) {r : Sum} {a b : ℤ} → all_within zs ≡ true → i < length zs → (i ≡ 0 → ⊥)
-    → a ≡ get_or zs i (pos 0) → b ≡ get_or zs (i - 1) (pos 0) → r ≡ within 200000000000000000 (a -ℤ b) → r ≡ Value (step_at zs i)
+pub step-later : (zs : List ℤ) (i : ℕ) {r : (Option ℤ)} {a b : ℤ} → all_within zs ≡ true → i < length zs → (i ≡ 0 → ⊥)
+    → a ≡ get_or zs i (pos 0) → b ≡ get_or zs (i - 1) (pos 0) → r ≡ within 200000000000000000 (a -ℤ b) → r ≡ Some (step_at zs i)
 step-later zs zero w h n p q e = absurd (n refl)
 step-later zs (suc i) w h n p q e =
     let m : suc i - 1 ≡ i = omega arith in
@@ -84,8 +83,8 @@ step-later zs (suc i) w h n p q e =
     ∙ ap₂ (λ (x y : ℤ). within 200000000000000000 (x -ℤ y)) p (rw m at q)
     ∙ within-value 200000000000000000 (step_at zs (suc i)) k (omega arith)
 
-pub value-is : {r : Sum} {x y : ℤ} → r ≡ Value x → r ≡ Value y → x ≡ y
+pub value-is : {r : (Option ℤ)} {x y : ℤ} → r ≡ Some x → r ≡ Some y → x ≡ y
 value-is p q = cc
 
-pub not_beyond : {r : Sum} {x : ℤ} → r ≡ Value x → r ≡ Beyond → ⊥
+pub not_beyond : {r : (Option ℤ)} {x : ℤ} → r ≡ Some x → r ≡ None → ⊥
 not_beyond p q = let z : ◌≡◌ {A = ℕ} 0 1 = cc in omega arith

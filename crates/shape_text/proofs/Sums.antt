@@ -1,11 +1,11 @@
 -- Differences sum up to the samples, and plain samples are the samples. Assumes nothing.
+use Rattle.std.proofs.Common.{Some}
 use Prim.Native.Nat.{◌*◌, ◌^◌, ◌≤◌}
 use mathlib.Core.Bool.{true}
 use mathlib.Core.List.{List, [], ◌∷◌, map}
 use mathlib.Core.Path.{◌≡◌, refl, ap, ◌∙◌}
 use native.Mathlib.Omega.{arith}
 use lib.IntN.{ℤ, pos, nat_abs, ◌+ℤ◌, ◌-ℤ◌, +ℤ_comm, +ℤ_idl, -ℤ-+ℤ_cancel}
-use Rattle.signed.specs.declared.Sum.TheVariants.{Value as SumValue}
 use Rattle.signed.proofs.Sign.{within-value, abs_diff}
 use Rattle.print.proofs.Back.{sample_of, steps_back}
 use Rattle.shape.specs.Samples.{sum_to, add_of}
@@ -29,7 +29,7 @@ traced-samples [] = refl
 traced-samples (z ∷ zs) = ap (λ (ys : List ℤ). z ∷ ys) (traced-samples zs)
 
 -- ---- What is added to p to come to z
-add-steps : (p d z : ℤ) → nat_abs d ≤ 2 * 10 ^ 17 → nat_abs z ≤ 10 ^ 17 → p +ℤ d ≡ z → add_of p (sample_of d) ≡ SumValue z
+add-steps : (p d z : ℤ) → nat_abs d ≤ 2 * 10 ^ 17 → nat_abs z ≤ 10 ^ 17 → p +ℤ d ≡ z → add_of p (sample_of d) ≡ Some z
 unfolding add_of sum_to
 add-steps p d z h k e = rw (steps_back d h, e) (within-value (10 ^ 17) z k (omega arith))
 

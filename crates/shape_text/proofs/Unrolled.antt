@@ -1,4 +1,5 @@
 -- Stored runs expand to the differences that they were made of. Assumes nothing.
+use Rattle.std.proofs.Common.{Some}
 use Prim.Native.Nat.{ℕ, zero, suc, ◌*◌, ◌^◌, ◌≤◌}
 use mathlib.Core.Bool.{Bool, true, false, cond}
 use mathlib.Core.List.{List, ◌∷◌, ◌++◌, map}
@@ -13,7 +14,6 @@ use Rattle.signed.proofs.Sign.{same_z-true, same_z-false}
 use Rattle.decimals.specs.Decimal.{same_decimal}
 use Rattle.numeral.specs.Worth.{rounded_of}
 use Rattle.numeral.specs.declared.Decimal.{Decimal}
-use Rattle.numeral.specs.declared.Signed.TheVariants.{Value as SignedValue}
 use Rattle.decimals.proofs.Kept.{same-yes, same_true}
 use Rattle.print.proofs.Back.{sample_of, steps_back}
 use Rattle.expanding.specs.Expand.{next, repeated, counted, fresh_of, repeat_of, pair_of}
@@ -23,7 +23,7 @@ use Rattle.shape_text.proofs.Longest.{AllIn, no_number, a-number, Unlike, Longes
 use Rattle.shape_text.proofs.Sums.{traced}
 
 -- ---- Different numbers are different decimals
-steps-same : (a b : ℤ) → SignedValue a ≡ SignedValue b → a ≡ b
+steps-same : (a b : ℤ) → Some a ≡ Some b → a ≡ b
 steps-same a b e = cc
 
 sample-apart : (a b : ℤ) → nat_abs a ≤ 2 * 10 ^ 17 → nat_abs b ≤ 2 * 10 ^ 17 → same_z a b ≡ false → same_decimal (sample_of b) (sample_of a) ≡ false

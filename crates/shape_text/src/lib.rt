@@ -8,7 +8,6 @@ ghost use Rattle.shape_text.specs.Written.{is_plain_text, ended_lines, run_lines
 ghost use Rattle.shape_text.specs.Inside.{step_at, RunAt};
 
 use shape::Edition;
-use signed::Sum;
 
 // What writing answers: the length of the text, or the refusal SHAPE or OUTPUT.
 #[derive(Clone, Copy)]
@@ -81,8 +80,8 @@ fn step(samples: &[i64], i: usize) -> i64
     }
     let before = samples[i - 1];
     match signed::minus(z, before, 200000000000000000) {
-        Sum::Value(d) => d,
-        Sum::Beyond => 0,
+        Some(d) => d,
+        None => 0,
     }
 }
 

@@ -4,7 +4,6 @@
 
 ghost use Rattle.std.specs.Prelude.{◌≤◌, length};
 
-use numeral::Natural;
 use shape::{Edition, Expanded};
 
 // The descriptors of standard input and output.
@@ -15,8 +14,8 @@ const STDOUT_FILENO: i32 = 1;
 // What a field is worth as a number; 0 if it is none.
 fn number_of(field: &[u8]) -> u64 {
     match numeral::read_integer(field, 0, 9999999999) {
-        Natural::Value(v) => v,
-        Natural::Bad => 0,
+        Some(v) => v,
+        None => 0,
     }
 }
 

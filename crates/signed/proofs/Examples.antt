@@ -1,8 +1,8 @@
 -- Signed numbers by example. Assumes nothing.
+use Rattle.std.proofs.Common.{None, Some}
 use mathlib.Core.Path.{◌≡◌, refl}
 use mathlib.Core.Bool.{true, false}
 use lib.IntN.{pos, negsuc}
-use Rattle.signed.specs.declared.Sum.TheVariants.{Value, Beyond}
 use Rattle.signed.specs.Signed.{same_z, largest, signed_of, within}
 
 -- -5 is the sign `true` before 5
@@ -20,15 +20,15 @@ unfolding same_z
 apart = refl
 
 -- a size that is asked for is allowed
-at-the-end : within 100 (negsuc 99) ≡ Value (negsuc 99)
+at-the-end : within 100 (negsuc 99) ≡ Some (negsuc 99)
 unfolding within
 at-the-end = refl
 
-past_the_end : within 100 (negsuc 100) ≡ Beyond
+past_the_end : within 100 (negsuc 100) ≡ None
 unfolding within
 past_the_end = refl
 
 -- -2^63 is an i64 with no opposite, and is beyond every size
-lowest : within 18446744073709551615 (negsuc largest) ≡ Beyond
+lowest : within 18446744073709551615 (negsuc largest) ≡ None
 unfolding within
 lowest = refl

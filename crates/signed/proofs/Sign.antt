@@ -1,6 +1,7 @@
 -- The laws of the definitions of specs/Signed.antt: a number is its sign before its size, `same_z` decides equality, and what
 -- `within` gives where. Also the bounds of the size of a sum and of a difference, which omega reads.
 -- Assumes nothing.
+use Rattle.std.proofs.Common.{None, Option, Some}
 use Prim.Native.Nat.{ℕ, zero, suc, ◌+◌, ◌≤◌, ◌<◌, min}
 use mathlib.Core.Path.{◌≡◌, refl, sym, ap, ap₂, ◌∙◌}
 use mathlib.Core.Bool.{Bool, true, false, not, cond}
@@ -10,8 +11,6 @@ use lib.IntN.{ℤ, pos, negsuc, nat_abs, neg_ℤ, sub_ℕ, ◌+ℤ◌, ◌-ℤ�
 use mir.Syntax.{w64}
 use mir.Val.{SFits}
 use borrow.Author.Tests.{eqb-true, eq-eqb, leb-true, le-leb, lt-leb}
-use Rattle.signed.specs.declared.Sum.{Sum}
-use Rattle.signed.specs.declared.Sum.TheVariants.{Value, Beyond}
 use Rattle.signed.specs.Signed.{same_z, is_negative, largest, signed_of, within}
 use Rattle.signed.proofs.Machine.{rd, rd-is}
 use Rattle.signed.proofs.Difference.{sub_same, sub-pos, sub-neg-pos, sub-add, sub-abs}
@@ -84,28 +83,28 @@ same_z-false a b e q = let z : ◌≡◌ {A = Bool} true false = sym (same_z-ref
 -- sums that are asked to stay within a size
 
 module _ (most : ℕ) (z : ℤ) where
-  pub within-value : nat_abs z ≤ most → nat_abs z ≤ largest → within most z ≡ Value z
+  pub within-value : nat_abs z ≤ most → nat_abs z ≤ largest → within most z ≡ Some z
   unfolding within
   within-value h k = rw (le-leb (nat_abs z) (min most largest) (omega arith))
 
-  pub within-beyond : most < nat_abs z → within most z ≡ Beyond
+  pub within-beyond : most < nat_abs z → within most z ≡ None
   unfolding within
   within-beyond h = rw (lt-leb (nat_abs z) (min most largest) (omega arith))
 
-  pub within-inv : (y : ℤ) → within most z ≡ Value y → (y ≡ z) × (nat_abs z ≤ most)
+  pub within-inv : (y : ℤ) → within most z ≡ Some y → (y ≡ z) × (nat_abs z ≤ most)
   unfolding within
   within-inv y e = go (leb (nat_abs z) (min most largest)) refl
     where
       go : (t : Bool) → leb (nat_abs z) (min most largest) ≡ t → (y ≡ z) × (nat_abs z ≤ most)
-      go true f = let g : ◌≡◌ {A = Sum} (Value z) (Value y) = rw f at e in (cc, omega (arith, leb-true (nat_abs z) (min most largest) f))
-      go false f = let g : ◌≡◌ {A = Sum} Beyond (Value y) = rw f at e in let n : ◌≡◌ {A = ℕ} 0 1 = cc in absurd (omega arith)
+      go true f = let g : ◌≡◌ {A = (Option ℤ)} (Some z) (Some y) = rw f at e in (cc, omega (arith, leb-true (nat_abs z) (min most largest) f))
+      go false f = let g : ◌≡◌ {A = (Option ℤ)} None (Some y) = rw f at e in let n : ◌≡◌ {A = ℕ} 0 1 = cc in absurd (omega arith)
 
   within-min : within (min most largest) z ≡ within most z
   unfolding within
   within-min = let e : min (min most largest) largest ≡ min most largest = omega arith in rw e
 
 -- the sum of x and y within `top`, where these are known
-pub within-sum : {r : Sum} {top : ℕ} {x y a b : ℤ} (most : ℕ) → r ≡ within top (x +ℤ y) → top ≡ min most largest → x ≡ a → y ≡ b → r ≡ within most (a +ℤ b)
+pub within-sum : {r : (Option ℤ)} {top : ℕ} {x y a b : ℤ} (most : ℕ) → r ≡ within top (x +ℤ y) → top ≡ min most largest → x ≡ a → y ≡ b → r ≡ within most (a +ℤ b)
 within-sum {a = a} {b = b} most e t p q = e ∙ ap₂ within t (ap₂ ◌+ℤ◌ p q) ∙ within-min most (a +ℤ b)
 
 -- the size of a sum and of a difference

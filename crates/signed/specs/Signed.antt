@@ -1,7 +1,5 @@
 -- Signed numbers: equality, a sign put before a size, and a sum that is asked to stay within a size.
-use Rattle.std.specs.Prelude.{ℕ, min, Bool, true, false, cond, eqb, leb, ℤ, pos, negsuc, nat_abs, neg_ℤ}
-use Rattle.signed.specs.declared.Sum.{Sum}
-use Rattle.signed.specs.declared.Sum.TheVariants.{Value, Beyond}
+use Rattle.std.specs.Prelude.{ℕ, min, Bool, true, false, cond, eqb, leb, ℤ, pos, negsuc, nat_abs, neg_ℤ, None, Option, Some}
 
 unfoldable pub same_z : ℤ → ℤ → Bool
 same_z (pos a) (pos b) = eqb a b
@@ -23,5 +21,5 @@ signed_of true n = neg_ℤ (pos n)
 signed_of false n = pos n
 
 -- a number whose size is at most so much
-unfoldable pub within : ℕ → ℤ → Sum
-within most z = cond (leb (nat_abs z) (min most largest)) (Value z) Beyond
+unfoldable pub within : ℕ → ℤ → Option ℤ
+within most z = cond (leb (nat_abs z) (min most largest)) (Some z) None

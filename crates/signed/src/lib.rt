@@ -6,13 +6,6 @@ ghost use Rattle.std.specs.Prelude.{◌≡◌, ◌≤◌, min, nat_abs, ◌+ℤ�
 ghost use Rattle.std.specs.Int.Signed.{lt_z};
 ghost use Rattle.signed.specs.Signed.{same_z, is_negative, largest, signed_of, within};
 
-// A sum that was asked to stay within a size.
-#[derive(Clone, Copy)]
-pub enum Sum {
-    Value(i64),
-    Beyond,
-}
-
 // Is a equal to b?
 pub fn same(a: i64, b: i64) -> bool
     ensures { result ≡ same_z a b }
@@ -66,33 +59,33 @@ pub fn with_sign(negative: bool, size: u64) -> i64
 }
 
 // The sum of a with the sign s and b with the sign t, if its size is at most `most`.
-fn added(s: bool, a: u64, t: bool, b: u64, most: u64) -> Sum
+fn added(s: bool, a: u64, t: bool, b: u64, most: u64) -> Option<i64>
     requires { most ≤ largest }
     ensures { result ≡ within most (signed_of s a +ℤ signed_of t b) }
 {
     if s == t {
         if most < a {
-            return Sum::Beyond;
+            return None;
         }
         if most - a < b {
-            return Sum::Beyond;
+            return None;
         }
-        return Sum::Value(with_sign(s, a + b));
+        return Some(with_sign(s, a + b));
     }
     if a < b {
         if most < b - a {
-            return Sum::Beyond;
+            return None;
         }
-        return Sum::Value(with_sign(t, b - a));
+        return Some(with_sign(t, b - a));
     }
     if most < a - b {
-        return Sum::Beyond;
+        return None;
     }
-    Sum::Value(with_sign(s, a - b))
+    Some(with_sign(s, a - b))
 }
 
 // a + b, if its size is at most `most` and fits an i64 with either sign.
-pub fn plus(a: i64, b: i64, most: u64) -> Sum
+pub fn plus(a: i64, b: i64, most: u64) -> Option<i64>
     ensures { result ≡ within most (a +ℤ b) }
 {
     let top = least(most, 9223372036854775807);
@@ -100,7 +93,7 @@ pub fn plus(a: i64, b: i64, most: u64) -> Sum
 }
 
 // a - b, if its size is at most `most` and fits an i64 with either sign.
-pub fn minus(a: i64, b: i64, most: u64) -> Sum
+pub fn minus(a: i64, b: i64, most: u64) -> Option<i64>
     ensures { result ≡ within most (a -ℤ b) }
 {
     let top = least(most, 9223372036854775807);

@@ -1,8 +1,8 @@
 -- The row of a shape is the line `num_samples`: behind it the file stands among values. Assumes nothing.
+use Rattle.std.proofs.Common.{Option, None, Some}
 use Prim.Native.Nat.{ℕ}
 use mathlib.Core.Bool.{Bool, true, false, cond, true≢false, ◌&&◌}
 use mathlib.Core.List.{List, [], ◌∷◌}
-use mathlib.Core.Option.{Option, none, some}
 use mathlib.Core.Path.{◌≡◌, refl, sym, ◌∙◌}
 use lib.Dec.{eqb}
 use lib.IntN.{ℤ, pos}
@@ -13,8 +13,6 @@ use Rattle.text.specs.declared.Mark.TheVariants.{Blank, Comment, Section as Sect
 use Rattle.fields.specs.Fields.{fields_of}
 use Rattle.signed.specs.Signed.{same_z}
 use Rattle.numeral.specs.Integer.{largest_id}
-use Rattle.numeral.specs.declared.Natural.{Natural}
-use Rattle.numeral.specs.declared.Natural.TheVariants.{Value as NaturalValue, Bad as NaturalBad}
 use Rattle.shape.specs.Stored.{item_of}
 use Rattle.shape.specs.declared.Item.{Item}
 use Rattle.shape.specs.declared.Item.TheVariants.{Value as ItemValue, Skipped, Bad as ItemBad}
@@ -32,7 +30,7 @@ use Rattle.sections.specs.Version.{major_word, minor_word, revision_word, versio
 use Rattle.places.specs.declared.Due.{Due}
 use Rattle.places.specs.declared.Due.TheVariants.{Major, Minor, Revision}
 use Rattle.places.specs.declared.Lines.{Lines}
-use Rattle.places.specs.declared.Lines.TheVariants.{None, Definitions, Rows, Shapes}
+use Rattle.places.specs.declared.Lines.TheVariants.{None as NoLines, Definitions, Rows, Shapes}
 use Rattle.places.specs.declared.Listed.{Listed}
 use Rattle.places.specs.declared.Listed.TheVariants.{Entries, Triggers, Labels, Unknown}
 use Rattle.places.specs.declared.Place.{Place}
@@ -93,15 +91,15 @@ module _ (st : State) (n : ℕ) where
   at-blank Values = silent refl
   at-blank Signature = silent refl
 
-  version-row : (next : State) (v : Natural) → Counted (version_row st next v)
+  version-row : (next : State) (v : (Option ℕ)) → Counted (version_row st next v)
   unfolding version_row is_row
-  version-row next (NaturalValue v) = silent refl
-  version-row next NaturalBad = silent refl
+  version-row next (Some v) = silent refl
+  version-row next None = silent refl
 
-  minor-row : (v : Natural) → Counted (minor_row st v)
+  minor-row : (v : (Option ℕ)) → Counted (minor_row st v)
   unfolding minor_row is_row
-  minor-row (NaturalValue v) = silent refl
-  minor-row NaturalBad = silent refl
+  minor-row (Some v) = silent refl
+  minor-row None = silent refl
 
   at-version : (fields : List (List ℕ)) (due : Due) → Counted (version_step st fields due)
   unfolding version_step
@@ -115,8 +113,8 @@ module _ (st : State) (n : ℕ) where
   by_form form fields = go (row_from (columns_of st.edition form) fields)
     where
       go : (o : Option (List ℤ)) → Counted (given_row st n (row_is form o))
-      go none = silent refl
-      go (some vs) = other (rw (kind-of (form_number form) vs) (form-other form))
+      go None = silent refl
+      go (Some vs) = other (rw (kind-of (form_number form) vs) (form-other form))
 
   at_label : (increment : Bool) (l : HeadLine) → Counted (label_row st n increment l)
   unfolding label_row is_row same_z
@@ -137,23 +135,23 @@ module _ (st : State) (n : ℕ) where
   at_listed fields (Labels increment) = at_label increment (label_of st.edition increment fields)
   at_listed fields Unknown = silent refl
 
-  at_head : (v : Natural) → Counted (head_row st n v)
+  at_head : (v : (Option ℕ)) → Counted (head_row st n v)
   unfolding head_row is_row
-  at_head (NaturalValue id) = silent refl
-  at_head NaturalBad = silent refl
+  at_head (Some id) = silent refl
+  at_head None = silent refl
 
   at-lines : (line : List ℕ) (lines : Lines) → Counted (lines_step st n line lines)
   unfolding lines_step definition_step head_step is_row
-  at-lines line None = silent refl
+  at-lines line NoLines = silent refl
   at-lines line Definitions = either (is_definition line) (silent refl) (silent refl)
   at-lines line (Rows form) = by_form form (fields_of line)
   at-lines line Shapes = at_head (word_number_of shape_id_word 1 largest_id (fields_of line))
 
   -- ---- and that of a shape leads to its values
-  at_count : (id : ℤ) (m : ℕ) (v : Natural) → Counted (count_row st id m v)
+  at_count : (id : ℤ) (m : ℕ) (v : (Option ℕ)) → Counted (count_row st id m v)
   unfolding count_row counted_of is_row
-  at_count id m (NaturalValue num) = values refl
-  at_count id m NaturalBad = silent refl
+  at_count id m (Some num) = values refl
+  at_count id m None = silent refl
 
   at_value : (i : Item) → Counted (value_row st i)
   unfolding value_row is_row

@@ -1,5 +1,6 @@
 -- Where times are exact. Sums and products of times within the paper's ranges are not capped, and a time that is given as whole
 -- microseconds or as whole steps of a raster is that many, and every such time is given so. Assumes nothing.
+use Rattle.std.proofs.Common.{None, Option, Some}
 use Prim.Native.Nat.{ℕ, ◌+◌, ◌*◌, ◌/◌, ◌%◌, ◌^◌, ◌≤◌, ◌<◌, max}
 use mathlib.Core.Path.{◌≡◌, refl, sym, ap, ◌∙◌}
 use mathlib.Core.Bool.{Bool, true, false}
@@ -9,10 +10,6 @@ use lib.Dec.{eqb}
 use borrow.Author.Tests.{eqb-true, eqb-false, eq-eqb, ne_eqb}
 use Rattle.unit.specs.declared.Micros.{Micros}
 use Rattle.unit.specs.declared.RasterCount.{RasterCount}
-use Rattle.unit.specs.declared.InMicros.{InMicros}
-use Rattle.unit.specs.declared.InMicros.TheVariants.{Whole, Between}
-use Rattle.unit.specs.declared.OnRaster.{OnRaster}
-use Rattle.unit.specs.declared.OnRaster.TheVariants.{Steps, Off}
 use Rattle.unit.specs.Time.{longest, capped, in_micros, on_raster}
 
 -- sums and products that are not capped
@@ -47,24 +44,24 @@ sum-exact a b c d h k l m = omega arith
 
 -- whole microseconds
 
-pub micros-whole : (n m : ℕ) → in_micros n ≡ Whole (record { 0 = m }) → n ≡ m * 1000
+pub micros-whole : (n m : ℕ) → in_micros n ≡ Some (record { 0 = m }) → n ≡ m * 1000
 unfolding in_micros
 micros-whole n m e = go (eqb (n % 1000) 0) refl
   where
     go : (t : Bool) → eqb (n % 1000) 0 ≡ t → n ≡ m * 1000
     go true f =
-        let g : ◌≡◌ {A = InMicros} (Whole (record { 0 = n / 1000 })) (Whole (record { 0 = m })) = rw f at e in
+        let g : ◌≡◌ {A = (Option Micros)} (Some (record { 0 = n / 1000 })) (Some (record { 0 = m })) = rw f at e in
         let q : ◌≡◌ {A = Micros} (record { 0 = n / 1000 }) (record { 0 = m }) = cc in
         omega (arith, ap (λ (x : Micros). x.0) q, eqb-true (n % 1000) 0 f)
-    go false f = let g : ◌≡◌ {A = InMicros} Between (Whole (record { 0 = m })) = rw f at e in let z : ◌≡◌ {A = ℕ} 0 1 = cc in absurd (omega arith)
+    go false f = let g : ◌≡◌ {A = (Option Micros)} None (Some (record { 0 = m })) = rw f at e in let z : ◌≡◌ {A = ℕ} 0 1 = cc in absurd (omega arith)
 
-pub micros-back : (m : ℕ) → in_micros (m * 1000) ≡ Whole (record { 0 = m })
+pub micros-back : (m : ℕ) → in_micros (m * 1000) ≡ Some (record { 0 = m })
 unfolding in_micros
-micros-back m = rw (eq-eqb (m * 1000 % 1000) 0 (omega arith)) (ap (λ (k : ℕ). Whole (record { 0 = k })) (omega arith))
+micros-back m = rw (eq-eqb (m * 1000 % 1000) 0 (omega arith)) (ap (λ (k : ℕ). Some (record { 0 = k })) (omega arith))
 
 -- whole steps of a raster
 
-pub steps-whole : (n r k : ℕ) → on_raster n r ≡ Steps (record { 0 = k }) → (n ≡ k * r) × (0 < r)
+pub steps-whole : (n r k : ℕ) → on_raster n r ≡ Some (record { 0 = k }) → (n ≡ k * r) × (0 < r)
 unfolding on_raster
 steps-whole n r k e = go (eqb r 0) refl (eqb (n % r) 0) refl
   where
@@ -72,13 +69,13 @@ steps-whole n r k e = go (eqb r 0) refl (eqb (n % r) 0) refl
     positive h = omega arith
 
     go : (t : Bool) → eqb r 0 ≡ t → (u : Bool) → eqb (n % r) 0 ≡ u → (n ≡ k * r) × (0 < r)
-    go true f u g = let h : ◌≡◌ {A = OnRaster} Off (Steps (record { 0 = k })) = rw f at e in let z : ◌≡◌ {A = ℕ} 0 1 = cc in absurd (omega arith)
+    go true f u g = let h : ◌≡◌ {A = (Option RasterCount)} None (Some (record { 0 = k })) = rw f at e in let z : ◌≡◌ {A = ℕ} 0 1 = cc in absurd (omega arith)
     go false f true g =
-        let h : ◌≡◌ {A = OnRaster} (Steps (record { 0 = n / r })) (Steps (record { 0 = k })) = rw (f, g) at e in
+        let h : ◌≡◌ {A = (Option RasterCount)} (Some (record { 0 = n / r })) (Some (record { 0 = k })) = rw (f, g) at e in
         let q : ◌≡◌ {A = RasterCount} (record { 0 = n / r }) (record { 0 = k }) = cc in
         (sym (mod-add-div' n r) ∙ rw (eqb-true (n % r) 0 g, ap (λ (x : RasterCount). x.0) q, zero-add), positive (eqb-false r 0 f))
-    go false f false g = let h : ◌≡◌ {A = OnRaster} Off (Steps (record { 0 = k })) = rw (f, g) at e in let z : ◌≡◌ {A = ℕ} 0 1 = cc in absurd (omega arith)
+    go false f false g = let h : ◌≡◌ {A = (Option RasterCount)} None (Some (record { 0 = k })) = rw (f, g) at e in let z : ◌≡◌ {A = ℕ} 0 1 = cc in absurd (omega arith)
 
-pub steps_back : (k r : ℕ) → 0 < r → on_raster (k * r) r ≡ Steps (record { 0 = k })
+pub steps_back : (k r : ℕ) → 0 < r → on_raster (k * r) r ≡ Some (record { 0 = k })
 unfolding on_raster
-steps_back k r h = rw (ne_eqb r 0 (λ e. omega arith), eq-eqb (k * r % r) 0 (mul-mod_left k r)) (ap (λ (j : ℕ). Steps (record { 0 = j })) (mul-div_cancel k h))
+steps_back k r h = rw (ne_eqb r 0 (λ e. omega arith), eq-eqb (k * r % r) 0 (mul-mod_left k r)) (ap (λ (j : ℕ). Some (record { 0 = j })) (mul-div_cancel k h))

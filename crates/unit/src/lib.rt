@@ -26,20 +26,6 @@ pub struct Rasters {
     pub block: Nanos,
 }
 
-// A time as whole microseconds, or one between two of them.
-#[derive(Clone, Copy)]
-pub enum InMicros {
-    Whole(Micros),
-    Between,
-}
-
-// A time as whole steps of a raster, or one that is off it.
-#[derive(Clone, Copy)]
-pub enum OnRaster {
-    Steps(RasterCount),
-    Off,
-}
-
 // a * b, or the end of the scale.
 fn product(a: u64, b: u64) -> u64
     ensures { result ≡ capped (a * b) }
@@ -73,29 +59,29 @@ impl RasterCount {
 
 impl Nanos {
     // This time as whole microseconds, where it is that.
-    pub fn micros(self) -> InMicros
+    pub fn micros(self) -> Option<Micros>
         ensures { result ≡ in_micros self.0 }
     {
         let n = self.0;
         if n % 1000 == 0 {
-            return InMicros::Whole(Micros(n / 1000));
+            return Some(Micros(n / 1000));
         }
-        InMicros::Between
+        None
     }
 
     // This time as whole steps of a raster, where it is that.
-    pub fn steps(self, raster: Nanos) -> OnRaster
+    pub fn steps(self, raster: Nanos) -> Option<RasterCount>
         ensures { result ≡ on_raster self.0 raster.0 }
     {
         let n = self.0;
         let step = raster.0;
         if step == 0 {
-            return OnRaster::Off;
+            return None;
         }
         if n % step == 0 {
-            return OnRaster::Steps(RasterCount(n / step));
+            return Some(RasterCount(n / step));
         }
-        OnRaster::Off
+        None
     }
 
     // One time after the other.

@@ -9,7 +9,7 @@ use Rattle.decimals.proofs.Parts.{part-le}
 use Rattle.decimals.proofs.Mantissas.{fit-counts, mantissa-inv}
 use Rattle.decimals.proofs.Powers.{power-inv}
 use Rattle.decimals.proofs.Bodies.{body-bad, body-value, body-none}
-use Rattle.decimals.proofs.body.Goals.{In-Value-2, In-Value-power_in-2}
+use Rattle.decimals.proofs.body.Goals.{In-Value-2, In-Some-2}
 use Rattle.decimals.proofs.body.Goals as goal
 
 pub slice_bounds-power_in-count : goal.slice_bounds-power_in-count
@@ -27,13 +27,13 @@ slice_bounds-power_in-start c =
 pub overflow_add-n : goal.overflow_add-n
 overflow_add-n c =
     let counts : (c.in-Value.z < 2 ^ 62) × (c.in-Value.f ≤ 32) = fit-counts _ _ _ _ _ c.in-Value.is c.mantissa_in.ensures.1 in
-    let within : (101 ≤ c.in-Value-power_in.n) × (c.in-Value-power_in.n ≤ 299) = let p = power-inv _ _ (sym c.power_in.ensures ∙ c.in-Value-power_in.is) in (p.least, p.most) in
+    let within : (101 ≤ c.in-Some.n) × (c.in-Some.n ≤ 299) = let p = power-inv _ _ (sym c.power_in.ensures ∙ c.in-Some.is) in (p.least, p.most) in
     let h = counts in let k = within in omega arith
 
 pub overflow_sub-n : goal.overflow_sub-n
 overflow_sub-n c =
     let counts : (c.in-Value.z < 2 ^ 62) × (c.in-Value.f ≤ 32) = fit-counts _ _ _ _ _ c.in-Value.is c.mantissa_in.ensures.1 in
-    let within : (101 ≤ c.in-Value-power_in.n) × (c.in-Value-power_in.n ≤ 299) = let p = power-inv _ _ (sym c.power_in.ensures ∙ c.in-Value-power_in.is) in (p.least, p.most) in
+    let within : (101 ≤ c.in-Some.n) × (c.in-Some.n ≤ 299) = let p = power-inv _ _ (sym c.power_in.ensures ∙ c.in-Some.is) in (p.least, p.most) in
     let h = counts in let k = within in omega arith
 
 pub pair-requires : goal.pair-requires
@@ -41,11 +41,11 @@ pair-requires c =
     let the-mantissa : (c.in-Value.v < large) × (length (mantissa_part c.args.s.now) ≡ c.in-Value.e) = mantissa-inv _ _ _ _ _ (sym c.mantissa_in.ensures.0 ∙ c.in-Value.is) in
     the-mantissa.0
 
-pub returns-in-Value-power_in : goal.returns-in-Value-power_in
-returns-in-Value-power_in c = c.pair.ensures ∙ body-value _ _ _ c.mantissa_in.ensures.0 _ _ _ _ _ c.in-Value.is c.power_in.ensures _ c.in-Value-power_in.is
+pub returns-in-Some : goal.returns-in-Some
+returns-in-Some c = c.pair.ensures ∙ body-value _ _ _ c.mantissa_in.ensures.0 _ _ _ _ _ c.in-Value.is c.power_in.ensures _ c.in-Some.is
 
-pub returns-in-Bad-power_in : goal.returns-in-Bad-power_in
-returns-in-Bad-power_in c = body-none _ _ _ c.mantissa_in.ensures.0 _ _ _ _ _ c.in-Value.is c.power_in.ensures c.in-Bad-power_in.is
+pub returns-in-None : goal.returns-in-None
+returns-in-None c = body-none _ _ _ c.mantissa_in.ensures.0 _ _ _ _ _ c.in-Value.is c.power_in.ensures c.in-None.is
 
 pub returns-in-Bad : goal.returns-in-Bad
 returns-in-Bad c = body-bad _ _ _ c.mantissa_in.ensures.0 c.in-Bad.is

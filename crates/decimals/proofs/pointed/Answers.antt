@@ -1,11 +1,12 @@
 -- `decimals::pointed` meets its contract: what is left without trailing zeros, with its exponent. Assumes nothing.
+use Rattle.std.proofs.Common.{Option}
+use Rattle.numeral.specs.declared.Decimal.{Decimal}
 use Prim.Native.Nat.{ℕ, ◌+◌, ◌-◌, ◌≤◌}
 use mathlib.Core.Bool.{Bool}
 use mathlib.Core.Path.{◌≡◌}
 use native.Mathlib.Omega.{arith}
 use Rattle.decimals.specs.Decimal.{strip_from}
 use Rattle.decimals.specs.Inside.{pair_of, pointed_of}
-use Rattle.decimals.specs.declared.Number.{Number}
 use Rattle.decimals.specs.declared.Stripped.{Stripped}
 use Rattle.decimals.proofs.Zeros.{strip-le, strip-zeros}
 use Rattle.decimals.proofs.pointed.Goals as goal
@@ -17,7 +18,7 @@ module _ (v : ℕ) (t : Stripped) (p : t ≡ strip_from v 0) where
   zeros : t.zeros ≤ v + 0
   zeros = rw p (strip-zeros v 0)
 
-  made : (negative : Bool) (f : ℕ) (n : Number) → n ≡ pair_of negative t.v (200 + t.zeros - f) → n ≡ pointed_of negative v f
+  made : (negative : Bool) (f : ℕ) (n : (Option Decimal)) → n ≡ pair_of negative t.v (200 + t.zeros - f) → n ≡ pointed_of negative v f
   unfolding pointed_of
   made negative f n q = rw p at q
 

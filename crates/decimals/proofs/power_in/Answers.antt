@@ -1,4 +1,5 @@
 -- `decimals::power_in` meets its contract: what stands behind the e and the sign is (from (from c.args.s.now 1) c.sign_of-g.result.len), and read. Assumes nothing.
+use Rattle.std.proofs.Common.{None, Option, Some}
 use Prim.Native.Nat.{ℕ, ◌+◌, ◌-◌, ◌≤◌, ◌<◌}
 use mathlib.Core.List.{List}
 use mathlib.Core.Bool.{Bool, true, false}
@@ -8,13 +9,11 @@ use lib.ListN.{length, take, drop}
 use Rattle.numeral.specs.Integer.{integer_of}
 use Rattle.decimals.specs.Inside.{sign_of, biased, power_of}
 use Rattle.decimals.specs.declared.Sign.{Sign}
-use Rattle.numeral.specs.declared.Natural.{Natural}
-use Rattle.numeral.specs.declared.Natural.TheVariants.{Value, Bad}
 use Rattle.numeral.proofs.Integer.{integer-inv}
 use Rattle.numeral.proofs.Parts.{tail-part}
 use Rattle.decimals.proofs.Parts.{sign_fits}
 use Rattle.decimals.proofs.Powers.{power_at, power-none, power-some, short-long, short-value, short-bad}
-use Rattle.decimals.proofs.power_in.Goals.{After-d-1, After-sign_of-g, In-Value, In-Value-2}
+use Rattle.decimals.proofs.power_in.Goals.{After-d-1, After-sign_of-g, In-Some, In-Some-2}
 use Rattle.decimals.proofs.power_in.Goals as goal
 
 -- the part behind a place
@@ -30,23 +29,23 @@ parts s g h e =
     (tail-part (from s 1) g.len ∙ ap (λ (x : Sign). drop x.len (from s 1)) e))
 
 -- the returns, by d
-long : (s d : List ℕ) (negative : Bool) → power_at negative d ≡ power_of s → 2 < length d → Bad ≡ power_of s
+long : (s d : List ℕ) (negative : Bool) → power_at negative d ≡ power_of s → 2 < length d → None ≡ power_of s
 long s d negative e h = rw (short-long d h) at e
 
-bad : (s d : List ℕ) (negative : Bool) (r : Natural) → power_at negative d ≡ power_of s → r ≡ integer_of 0 99 d → r ≡ Bad → Bad ≡ power_of s
+bad : (s d : List ℕ) (negative : Bool) (r : (Option ℕ)) → power_at negative d ≡ power_of s → r ≡ integer_of 0 99 d → r ≡ None → None ≡ power_of s
 bad s d negative r e p q = rw (short-bad d (sym p ∙ q)) at e
 
-good : (s d : List ℕ) (negative : Bool) (r : Natural) (n : ℕ) → power_at negative d ≡ power_of s → length d ≤ 2 → r ≡ integer_of 0 99 d → r ≡ Value n
-    → Value (biased negative n) ≡ power_of s
+good : (s d : List ℕ) (negative : Bool) (r : (Option ℕ)) (n : ℕ) → power_at negative d ≡ power_of s → length d ≤ 2 → r ≡ integer_of 0 99 d → r ≡ Some n
+    → Some (biased negative n) ≡ power_of s
 good s d negative r n e h p q =
     let w = short-value d n h (sym p ∙ q) in
-    ap (λ (k : ℕ). Value (biased negative k)) (sym w.1) ∙ (rw w.0 at e)
+    ap (λ (k : ℕ). Some (biased negative k)) (sym w.1) ∙ (rw w.0 at e)
 
-minus : (s : List ℕ) (negative : Bool) (n : ℕ) → negative ≡ true → Value (biased negative n) ≡ power_of s → Value (200 - n) ≡ power_of s
+minus : (s : List ℕ) (negative : Bool) (n : ℕ) → negative ≡ true → Some (biased negative n) ≡ power_of s → Some (200 - n) ≡ power_of s
 unfolding biased
 minus s negative n t e = rw t at e
 
-plus : (s : List ℕ) (negative : Bool) (n : ℕ) → negative ≡ false → Value (biased negative n) ≡ power_of s → Value (200 + n) ≡ power_of s
+plus : (s : List ℕ) (negative : Bool) (n : ℕ) → negative ≡ false → Some (biased negative n) ≡ power_of s → Some (200 + n) ≡ power_of s
 unfolding biased
 plus s negative n t e = rw t at e
 
@@ -70,27 +69,27 @@ returns-then-d-gt2 c =
 
 pub overflow_sub-result : goal.overflow_sub-result
 overflow_sub-result c =
-    let small : c.in-Value.n ≤ 99 = (integer-inv 0 99 _ _ (sym c.read_integer.ensures ∙ c.in-Value.is)).most in
+    let small : c.in-Some.n ≤ 99 = (integer-inv 0 99 _ _ (sym c.read_integer.ensures ∙ c.in-Some.is)).most in
     let h = small in omega arith
 
 pub returns-then-negative : goal.returns-then-negative
 returns-then-negative c =
     let the_parts : power_at c.sign_of-g.result.minus (from (from c.args.s.now 1) c.sign_of-g.result.len) ≡ power_of c.args.s.now = parts _ _ (omega arith) c.sign_of-g.ensures in
-    let the_value : Value (biased c.sign_of-g.result.minus c.in-Value.n) ≡ power_of c.args.s.now = good _ _ _ _ _ the_parts c.if-d-gt2.false c.read_integer.ensures c.in-Value.is in
+    let the_value : Some (biased c.sign_of-g.result.minus c.in-Some.n) ≡ power_of c.args.s.now = good _ _ _ _ _ the_parts c.if-d-gt2.false c.read_integer.ensures c.in-Some.is in
     minus _ _ _ c.if-negative.true the_value
 
 pub overflow_add-result : goal.overflow_add-result
 overflow_add-result c =
-    let small : c.in-Value.n ≤ 99 = (integer-inv 0 99 _ _ (sym c.read_integer.ensures ∙ c.in-Value.is)).most in
+    let small : c.in-Some.n ≤ 99 = (integer-inv 0 99 _ _ (sym c.read_integer.ensures ∙ c.in-Some.is)).most in
     let h = small in omega arith
 
 pub returns-else-negative : goal.returns-else-negative
 returns-else-negative c =
     let the_parts : power_at c.sign_of-g.result.minus (from (from c.args.s.now 1) c.sign_of-g.result.len) ≡ power_of c.args.s.now = parts _ _ (omega arith) c.sign_of-g.ensures in
-    let the_value : Value (biased c.sign_of-g.result.minus c.in-Value.n) ≡ power_of c.args.s.now = good _ _ _ _ _ the_parts c.if-d-gt2.false c.read_integer.ensures c.in-Value.is in
+    let the_value : Some (biased c.sign_of-g.result.minus c.in-Some.n) ≡ power_of c.args.s.now = good _ _ _ _ _ the_parts c.if-d-gt2.false c.read_integer.ensures c.in-Some.is in
     plus _ _ _ c.if-negative.false the_value
 
-pub returns-in-Bad : goal.returns-in-Bad
-returns-in-Bad c =
+pub returns-in-None : goal.returns-in-None
+returns-in-None c =
     let the_parts : power_at c.sign_of-g.result.minus (from (from c.args.s.now 1) c.sign_of-g.result.len) ≡ power_of c.args.s.now = parts _ _ (omega arith) c.sign_of-g.ensures in
-    bad _ _ _ _ the_parts c.read_integer.ensures c.in-Bad.is
+    bad _ _ _ _ the_parts c.read_integer.ensures c.in-None.is

@@ -1,4 +1,6 @@
 -- `decimals::read_decimal` meets its contract: the sign is cut off, and the rest is read. Assumes nothing.
+use Rattle.std.proofs.Common.{Option}
+use Rattle.numeral.specs.declared.Decimal.{Decimal}
 use Prim.Native.Nat.{ℕ, ◌-◌, ◌≤◌}
 use mathlib.Core.List.{List}
 use mathlib.Core.Path.{◌≡◌, ◌∙◌}
@@ -7,14 +9,13 @@ use lib.ListN.{length, take, drop}
 use Rattle.decimals.specs.Decimal.{decimal_of}
 use Rattle.decimals.specs.Inside.{sign_of, body_of}
 use Rattle.decimals.specs.declared.Sign.{Sign}
-use Rattle.decimals.specs.declared.Number.{Number}
 use Rattle.numeral.proofs.Parts.{tail-part}
 use Rattle.decimals.proofs.Parts.{sign_fits}
 use Rattle.decimals.proofs.Bodies.{decimal-long, decimal-is}
 use Rattle.decimals.proofs.read_decimal.Goals.{After-sign_of-g}
 use Rattle.decimals.proofs.read_decimal.Goals as goal
 
-closed : (s : List ℕ) (g : Sign) (r : Number) → length s ≤ 32 → g ≡ sign_of s → r ≡ body_of g.minus (take (length s - g.len) (drop g.len s))
+closed : (s : List ℕ) (g : Sign) (r : (Option Decimal)) → length s ≤ 32 → g ≡ sign_of s → r ≡ body_of g.minus (take (length s - g.len) (drop g.len s))
     → r ≡ decimal_of s
 unfolding sign_of
 closed s g r h e p = p ∙ rw (tail-part s g.len, e) (decimal-is s h)

@@ -2,8 +2,8 @@
 use Rattle.events.proofs.Aligning.{off-no, off-yes}
 use Rattle.events.proofs.off.Goals as goal
 
-pub returns-in-Steps : goal.returns-in-Steps
-returns-in-Steps c = off-no _ _ _ c.steps.ensures _ c.in-Steps.is
+pub returns-in-Some : goal.returns-in-Some
+returns-in-Some c = off-no _ _ _ c.steps.ensures _ c.in-Some.is
 
-pub returns-in-Off : goal.returns-in-Off
-returns-in-Off c = off-yes _ _ _ c.steps.ensures c.in-Off.is
+pub returns-in-None : goal.returns-in-None
+returns-in-None c = off-yes _ _ _ c.steps.ensures c.in-None.is

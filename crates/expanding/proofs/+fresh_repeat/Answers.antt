@@ -15,11 +15,11 @@ fresh-returns-in_default t c = fresh-beyond _ _ _ _ _ _ _ (rw (rd-is c.ranges.su
 
 pub fresh-returns-then-open-eq0 : goal.fresh-returns-then-open-eq0
 fresh-returns-then-open-eq0 t c =
-    rw (rd-at c.in-Value.s (omega arith)) (fresh-value _ _ _ _ _ _ _ _ (rw (rd-is c.ranges.sum) at c.lay_run.ensures) c.in-Value.is)
+    rw (rd-at c.in-Some.s (omega arith)) (fresh-value _ _ _ _ _ _ _ _ (rw (rd-is c.ranges.sum) at c.lay_run.ensures) c.in-Some.is)
 
 pub fresh-returns : goal.fresh-returns
 fresh-returns t c =
-    went_on (fresh-value _ _ _ _ _ _ _ _ (rw (rd-is c.ranges.sum) at c.lay_run.ensures) c.in-Value.is) (rw (rd-at c.in-Value.s (omega arith)) at c.repeat.ensures)
+    went_on (fresh-value _ _ _ _ _ _ _ _ (rw (rd-is c.ranges.sum) at c.lay_run.ensures) c.in-Some.is) (rw (rd-at c.in-Some.s (omega arith)) at c.repeat.ensures)
 
 pub repeat-fresh-requires : goal.repeat-fresh-requires
 unfolding weight

@@ -1,3 +1,4 @@
+use Rattle.std.proofs.Common.{None, Some}
 use Prim.Native.Nat.{ℕ, ◌+◌, ◌≤◌, ◌<◌}
 use mathlib.Core.Bool.{false}
 use mathlib.Core.List.{List, ◌∷◌}
@@ -6,7 +7,6 @@ use native.Mathlib.Omega.{arith}
 use lib.Dec.{eqb}
 use lib.IntN.{ℤ, pos}
 use lib.ListN.{length, set, length-set}
-use Rattle.signed.specs.declared.Sum.TheVariants.{Value as SumValue, Beyond}
 use Rattle.signed.proofs.Machine.{rd-at}
 use Rattle.numeral.specs.declared.Decimal.{Decimal}
 use Rattle.shape.specs.Samples.{add_of}
@@ -41,10 +41,10 @@ module _ (text : List ℕ) (num : ℕ) (l m : List ℤ) (from at : ℕ) (i : Lay
     late : (k : List ℤ) → num ≤ at → told false k ≡ soundly (all_sound (lines_of text)) (judged num l 0 (plain_of (values_of text)))
     late k h = refused k (plain-late num m at d (values_at text behind) h)
 
-    beyond : (k : List ℤ) → add_of (pos 0) d ≡ Beyond → told false k ≡ soundly (all_sound (lines_of text)) (judged num l 0 (plain_of (values_of text)))
+    beyond : (k : List ℤ) → add_of (pos 0) d ≡ None → told false k ≡ soundly (all_sound (lines_of text)) (judged num l 0 (plain_of (values_of text)))
     beyond k e = refused k (plain-beyond num m at d (values_at text behind) e)
 
-    turn : (z : ℤ) (m' : List ℤ) → at < num → add_of (pos 0) d ≡ SumValue z → m' ≡ set m at z → Laying text num l m' behind (at + 1)
+    turn : (z : ℤ) (m' : List ℤ) → at < num → add_of (pos 0) d ≡ Some z → m' ≡ set m at z → Laying text num l m' behind (at + 1)
     turn z m' h e f =
         record {
           due = omega arith;
@@ -69,15 +69,15 @@ loop-d-smaller c = let v = (rw c.in-Value.is at c.next_value.ensures) in omega (
 
 pub loop-d-preserved : goal.loop-d-preserved
 loop-d-preserved c =
-    turn _ _ _ _ _ _ c.loop-d.invariant _ _ (rw c.in-Value.is at c.next_value.ensures) _ _ (omega arith) (sym c.add_value.ensures ∙ c.in-Value-add_value.is)
-    (c.store.ensures ∙ rw (rd-at c.in-Value-add_value.z (omega arith)))
+    turn _ _ _ _ _ _ c.loop-d.invariant _ _ (rw c.in-Value.is at c.next_value.ensures) _ _ (omega arith) (sym c.add_value.ensures ∙ c.in-Some.is)
+    (c.store.ensures ∙ rw (rd-at c.in-Some.z (omega arith)))
 
-pub shape_of-samples-in-Beyond : goal.shape_of-samples-in-Beyond
-shape_of-samples-in-Beyond c = c.loop-d.invariant.long
+pub shape_of-samples-in-None : goal.shape_of-samples-in-None
+shape_of-samples-in-None c = c.loop-d.invariant.long
 
-pub returns-in-Beyond : goal.returns-in-Beyond
-returns-in-Beyond c =
-    beyond _ _ _ _ _ _ c.loop-d.invariant _ _ (rw c.in-Value.is at c.next_value.ensures) _ (sym c.add_value.ensures ∙ c.in-Beyond.is)
+pub returns-in-None : goal.returns-in-None
+returns-in-None c =
+    beyond _ _ _ _ _ _ c.loop-d.invariant _ _ (rw c.in-Value.is at c.next_value.ensures) _ (sym c.add_value.ensures ∙ c.in-None.is)
 
 pub shape_of-samples-in-End : goal.shape_of-samples-in-End
 shape_of-samples-in-End c = c.loop-d.invariant.long

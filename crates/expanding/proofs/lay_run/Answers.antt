@@ -1,3 +1,4 @@
+use Rattle.std.proofs.Common.{None, Some}
 use Rattle.signed.proofs.Machine.{rd-is, rd-at}
 use Prim.Native.Nat.{ℕ, suc, ◌+◌, ◌-◌, ◌≤◌, ◌<◌}
 use mathlib.Core.List.{List}
@@ -6,7 +7,6 @@ use native.Mathlib.Omega.{arith}
 use native.Mathlib.Nat.{add-zero}
 use lib.IntN.{ℤ}
 use lib.ListN.{length, set, length-set}
-use Rattle.signed.specs.declared.Sum.TheVariants.{Value as SumValue, Beyond}
 use Rattle.numeral.specs.declared.Decimal.{Decimal}
 use Rattle.shape.specs.Samples.{add_of}
 use Rattle.expanding.specs.Expand.{repeated}
@@ -15,12 +15,12 @@ use Rattle.expanding.proofs.Judging.{run_step, run-beyond, run-over}
 use Rattle.expanding.proofs.lay_run.Invariants.{Running}
 use Rattle.expanding.proofs.lay_run.Goals as goal
 
-never : {A : Type 0} (s : ℤ) → Beyond ≡ SumValue s → A
+never : {A : Type 0} (s : ℤ) → None ≡ Some s → A
 never s e = absurd (let z : ◌≡◌ {A = ℕ} 0 1 = cc in omega arith)
 
 module _ (num : ℕ) (l : List ℤ) (at n : ℕ) (sum : ℤ) (d : Decimal) where
   -- more than is due
-  over : at ≤ num → num - at < n → Ran num l l at n sum d Beyond
+  over : at ≤ num → num - at < n → Ran num l l at n sum d None
   unfolding ran_to
   over h k = record { same = λ t. run-over n num l at sum d t h k; fits = λ s e. never s e }
 
@@ -33,7 +33,7 @@ module _ (num : ℕ) (l : List ℤ) (at n : ℕ) (sum : ℤ) (d : Decimal) where
     one_more : k < n → n - k ≡ suc (n - (k + 1))
     one_more h = omega arith
 
-    turn : (z : ℤ) (m' : List ℤ) → k < n → add_of s d ≡ SumValue z → m' ≡ set m (at + k) z → Running num l at n sum d m' z (k + 1)
+    turn : (z : ℤ) (m' : List ℤ) → k < n → add_of s d ≡ Some z → m' ≡ set m (at + k) z → Running num l at n sum d m' z (k + 1)
     turn z m' h e f =
         let a : at + k + 1 ≡ at + (k + 1) = omega arith in
         record {
@@ -43,11 +43,11 @@ module _ (num : ℕ) (l : List ℤ) (at n : ℕ) (sum : ℤ) (d : Decimal) where
           same = λ t. r.same t ∙ rw (one_more h, f, ← a) (run_step num m (at + k) s d (n - (k + 1)) t z e);
         }
 
-    stop : k < n → add_of s d ≡ Beyond → Ran num l m at n sum d Beyond
+    stop : k < n → add_of s d ≡ None → Ran num l m at n sum d None
     unfolding ran_to
     stop h e = record { same = λ t. r.same t ∙ rw (one_more h) (run-beyond num m (at + k) s d (n - (k + 1)) t e); fits = λ y q. never y q }
 
-    end : n ≤ k → Ran num l m at n sum d (SumValue s)
+    end : n ≤ k → Ran num l m at n sum d (Some s)
     unfolding ran_to repeated
     end h =
         let i = r.inside in
@@ -62,15 +62,15 @@ pub loop-k-init : goal.loop-k-init
 loop-k-init c = start _ _ _ _ _ _ c.requires c.if-num-at.false
 
 pub loop-k-preserved : goal.loop-k-preserved
-loop-k-preserved c = let z = c.in-Value.z in
+loop-k-preserved c = let z = c.in-Some.z in
     let f = rd-at z (omega arith) in
-    rw f (turn _ _ _ _ _ _ _ _ _ c.loop-k.invariant _ _ (omega arith) (sym c.add_value.ensures ∙ c.in-Value.is) (c.store.ensures ∙ rw f))
+    rw f (turn _ _ _ _ _ _ _ _ _ c.loop-k.invariant _ _ (omega arith) (sym c.add_value.ensures ∙ c.in-Some.is) (c.store.ensures ∙ rw f))
 
-pub shape_of-samples-in-Beyond : goal.shape_of-samples-in-Beyond
-shape_of-samples-in-Beyond c = c.loop-k.invariant.long
+pub shape_of-samples-in-None : goal.shape_of-samples-in-None
+shape_of-samples-in-None c = c.loop-k.invariant.long
 
-pub returns-in-Beyond : goal.returns-in-Beyond
-returns-in-Beyond c = rw (rd-is c.ranges.sum) at (stop _ _ _ _ _ _ _ _ _ c.loop-k.invariant (omega arith) (sym c.add_value.ensures ∙ c.in-Beyond.is))
+pub returns-in-None : goal.returns-in-None
+returns-in-None c = rw (rd-is c.ranges.sum) at (stop _ _ _ _ _ _ _ _ _ c.loop-k.invariant (omega arith) (sym c.add_value.ensures ∙ c.in-None.is))
 
 pub shape_of-samples : goal.shape_of-samples
 shape_of-samples c = c.loop-k.invariant.long

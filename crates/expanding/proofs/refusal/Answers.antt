@@ -3,10 +3,10 @@ use mathlib.Core.Path.{sym, ap, ◌∙◌}
 use Rattle.expanding.specs.Inside.{refusal_of}
 use Rattle.expanding.proofs.refusal.Goals as goal
 
-pub returns-in-Values : goal.returns-in-Values
+pub returns-in-Some : goal.returns-in-Some
 unfolding refusal_of
-returns-in-Values c = ap refusal_of (sym c.in-Values.is ∙ c.count_values.ensures)
+returns-in-Some c = ap refusal_of (sym c.in-Some.is ∙ c.count_values.ensures)
 
-pub returns-in-Faulty : goal.returns-in-Faulty
+pub returns-in-None : goal.returns-in-None
 unfolding refusal_of
-returns-in-Faulty c = ap refusal_of (sym c.in-Faulty.is ∙ c.count_values.ensures)
+returns-in-None c = ap refusal_of (sym c.in-None.is ∙ c.count_values.ensures)

@@ -7,20 +7,20 @@ use Rattle.expanding.proofs.Moves.{pair_end, pair-faulty, pair-uncounted, pair-v
 use Rattle.expanding.proofs.take_pair.Goals as goal
 
 pub overflow_add-more : goal.overflow_add-more
-overflow_add-more c = omega (arith, (whole-range _ 0 0 1000000 _ (sym c.whole_worth.ensures ∙ c.in-Value-whole_worth.is)).1)
+overflow_add-more c = omega (arith, (whole-range _ 0 0 1000000 _ (sym c.whole_worth.ensures ∙ c.in-Some.is)).1)
 
 pub overflow_add-at : goal.overflow_add-at
-overflow_add-at c = omega (arith, c.lay_run.ensures.fits _ c.in-Value-lay_run.is)
+overflow_add-at c = omega (arith, c.lay_run.ensures.fits _ c.in-Some-lay_run.is)
 
-pub returns-in-Value-lay_run : goal.returns-in-Value-lay_run
-returns-in-Value-lay_run c = pair-value _ _ _ _ _ _ _ _ _ (rw c.in-Value.is at c.next_value.ensures) _ _ (sym c.whole_worth.ensures ∙ c.in-Value-whole_worth.is) (rw (rd-is c.ranges.sum) at c.lay_run.ensures) c.in-Value-lay_run.is
-    (rw (rd-at c.in-Value-lay_run.s (omega arith)) at c.next_fresh.ensures)
+pub returns-in-Some-lay_run : goal.returns-in-Some-lay_run
+returns-in-Some-lay_run c = pair-value _ _ _ _ _ _ _ _ _ (rw c.in-Value.is at c.next_value.ensures) _ _ (sym c.whole_worth.ensures ∙ c.in-Some.is) (rw (rd-is c.ranges.sum) at c.lay_run.ensures) c.in-Some-lay_run.is
+    (rw (rd-at c.in-Some-lay_run.s (omega arith)) at c.next_fresh.ensures)
 
-pub returns-in-Beyond : goal.returns-in-Beyond
-returns-in-Beyond c = pair-beyond _ _ _ _ _ _ _ _ _ (rw c.in-Value.is at c.next_value.ensures) _ (sym c.whole_worth.ensures ∙ c.in-Value-whole_worth.is) (rw (rd-is c.ranges.sum) at c.lay_run.ensures) c.in-Beyond.is
+pub returns-in-None-lay_run : goal.returns-in-None-lay_run
+returns-in-None-lay_run c = pair-beyond _ _ _ _ _ _ _ _ _ (rw c.in-Value.is at c.next_value.ensures) _ (sym c.whole_worth.ensures ∙ c.in-Some.is) (rw (rd-is c.ranges.sum) at c.lay_run.ensures) c.in-None-lay_run.is
 
-pub returns-in-Bad-whole_worth : goal.returns-in-Bad-whole_worth
-returns-in-Bad-whole_worth c = pair-uncounted _ _ _ _ _ _ _ _ _ (rw c.in-Value.is at c.next_value.ensures) (sym c.whole_worth.ensures ∙ c.in-Bad-whole_worth.is)
+pub returns-in-None : goal.returns-in-None
+returns-in-None c = pair-uncounted _ _ _ _ _ _ _ _ _ (rw c.in-Value.is at c.next_value.ensures) (sym c.whole_worth.ensures ∙ c.in-None.is)
 
 pub returns-in-End : goal.returns-in-End
 returns-in-End c = pair_end _ _ _ _ _ _ _ (rw c.in-End.is at c.next_value.ensures)

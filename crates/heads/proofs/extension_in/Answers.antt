@@ -12,16 +12,16 @@ pub returns-then-not-is_name : goal.returns-then-not-is_name
 unfolding extension_word
 returns-then-not-is_name c = extension-unnamed _ _ _ (sym c.same.ensures ∙ c.if-not-same.false) (sym c.is_name.ensures ∙ c.if-not-is_name.true)
 
-pub returns-in-Value : goal.returns-in-Value
+pub returns-in-Some : goal.returns-in-Some
 unfolding extension_word
-returns-in-Value c =
+returns-in-Some c =
     extension-read _ _ _ (sym c.same.ensures ∙ c.if-not-same.false)
     (sym c.is_name.ensures ∙ c.if-not-is_name.false)
-    _ c.read_integer.ensures _ c.in-Value.is _ c.extension_code.ensures
+    _ c.read_integer.ensures _ c.in-Some.is _ c.extension_code.ensures
 
-pub returns-in-Bad : goal.returns-in-Bad
+pub returns-in-None : goal.returns-in-None
 unfolding extension_word
-returns-in-Bad c =
+returns-in-None c =
     extension-no-number _ _ _ (sym c.same.ensures ∙ c.if-not-same.false)
     (sym c.is_name.ensures ∙ c.if-not-is_name.false)
-    _ c.read_integer.ensures c.in-Bad.is
+    _ c.read_integer.ensures c.in-None.is

@@ -4,8 +4,8 @@ use Rattle.signed.proofs.Machine.{rd-at}
 use Rattle.numeral.proofs.Outcomes.{as-value, as-bad, held-integer}
 use Rattle.heads.proofs.flag_value.Goals as goal
 
-pub returns-in-Value : goal.returns-in-Value
-returns-in-Value c = as-value _ _ _ _ (sym c.read_integer.ensures ∙ c.in-Value.is) (held-integer _ _ _ _ refl) (rd-at _ c.with_sign.type_inv ∙ c.with_sign.ensures)
+pub returns-in-Some : goal.returns-in-Some
+returns-in-Some c = as-value _ _ _ _ (sym c.read_integer.ensures ∙ c.in-Some.is) (held-integer _ _ _ _ refl) (rd-at _ c.with_sign.type_inv ∙ c.with_sign.ensures)
 
-pub returns-in-Bad : goal.returns-in-Bad
-returns-in-Bad c = as-bad _ _ (sym c.read_integer.ensures ∙ c.in-Bad.is)
+pub returns-in-None : goal.returns-in-None
+returns-in-None c = as-bad _ _ (sym c.read_integer.ensures ∙ c.in-None.is)

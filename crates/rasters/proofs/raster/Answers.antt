@@ -2,11 +2,11 @@
 use Rattle.rasters.proofs.Reading.{raster-good, raster-bad, raster-none}
 use Rattle.rasters.proofs.raster.Goals as goal
 
-pub returns-in-Value-whole_worth : goal.returns-in-Value-whole_worth
-returns-in-Value-whole_worth c = raster-good _ _ c.read_decimal.ensures _ c.in-Value.is _ c.whole_worth.ensures _ c.in-Value-whole_worth.is
+pub returns-in-Some-whole_worth : goal.returns-in-Some-whole_worth
+returns-in-Some-whole_worth c = raster-good _ _ c.read_decimal.ensures _ c.in-Some.is _ c.whole_worth.ensures _ c.in-Some-whole_worth.is
 
-pub returns-in-Bad-whole_worth : goal.returns-in-Bad-whole_worth
-returns-in-Bad-whole_worth c = raster-bad _ _ c.read_decimal.ensures _ c.in-Value.is _ c.whole_worth.ensures c.in-Bad-whole_worth.is
+pub returns-in-None-whole_worth : goal.returns-in-None-whole_worth
+returns-in-None-whole_worth c = raster-bad _ _ c.read_decimal.ensures _ c.in-Some.is _ c.whole_worth.ensures c.in-None-whole_worth.is
 
-pub returns-in-Bad : goal.returns-in-Bad
-returns-in-Bad c = raster-none _ _ c.read_decimal.ensures c.in-Bad.is
+pub returns-in-None : goal.returns-in-None
+returns-in-None c = raster-none _ _ c.read_decimal.ensures c.in-None.is

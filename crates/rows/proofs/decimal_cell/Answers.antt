@@ -5,8 +5,8 @@ use Rattle.rows.proofs.Cells.{decimal-good, decimal-none}
 use borrow.Author.Rules.{rules}
 use Rattle.rows.proofs.decimal_cell.Goals as goal
 
-pub returns-in-Value : goal.returns-in-Value
-returns-in-Value c = decimal-good _ _ _ _ (sym c.read_decimal.ensures ∙ c.in-Value.is) (rd-at _ (search rules)) (rd-at _ (search rules))
+pub returns-in-Some : goal.returns-in-Some
+returns-in-Some c = decimal-good _ _ _ _ (sym c.read_decimal.ensures ∙ c.in-Some.is) (rd-at _ (search rules)) (rd-at _ (search rules))
 
-pub returns-in-Bad : goal.returns-in-Bad
-returns-in-Bad c = decimal-none _ (sym c.read_decimal.ensures ∙ c.in-Bad.is)
+pub returns-in-None : goal.returns-in-None
+returns-in-None c = decimal-none _ (sym c.read_decimal.ensures ∙ c.in-None.is)

@@ -2,10 +2,10 @@
 use Rattle.said.specs.Said.{steps_of}
 use Rattle.said.proofs.steps_of.Goals as goal
 
-pub returns-in-Steps : goal.returns-in-Steps
+pub returns-in-Some : goal.returns-in-Some
 unfolding steps_of
-returns-in-Steps c = rw c.in-Steps.is
+returns-in-Some c = rw c.in-Some.is
 
-pub returns-in-Off : goal.returns-in-Off
+pub returns-in-None : goal.returns-in-None
 unfolding steps_of
-returns-in-Off c = rw c.in-Off.is
+returns-in-None c = rw c.in-None.is

@@ -2,10 +2,10 @@
 use Rattle.sayable.specs.Sayable.{is_between}
 use Rattle.sayable.proofs.is_between.Goals as goal
 
-pub returns-in-Whole : goal.returns-in-Whole
+pub returns-in-Some : goal.returns-in-Some
 unfolding is_between
-returns-in-Whole c = rw c.in-Whole.is
+returns-in-Some c = rw c.in-Some.is
 
-pub returns-in-Between : goal.returns-in-Between
+pub returns-in-None : goal.returns-in-None
 unfolding is_between
-returns-in-Between c = rw c.in-Between.is
+returns-in-None c = rw c.in-None.is

@@ -2,10 +2,10 @@
 use Rattle.sayable.specs.Sayable.{not_steps}
 use Rattle.sayable.proofs.is_not_steps.Goals as goal
 
-pub returns-in-Steps : goal.returns-in-Steps
+pub returns-in-Some : goal.returns-in-Some
 unfolding not_steps
-returns-in-Steps c = rw c.in-Steps.is
+returns-in-Some c = rw c.in-Some.is
 
-pub returns-in-Off : goal.returns-in-Off
+pub returns-in-None : goal.returns-in-None
 unfolding not_steps
-returns-in-Off c = rw c.in-Off.is
+returns-in-None c = rw c.in-None.is

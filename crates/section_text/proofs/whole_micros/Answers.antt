@@ -2,10 +2,10 @@
 use Rattle.section_text.specs.Sections.{whole_micros}
 use Rattle.section_text.proofs.whole_micros.Goals as goal
 
-pub returns-in-Whole : goal.returns-in-Whole
+pub returns-in-Some : goal.returns-in-Some
 unfolding whole_micros
-returns-in-Whole c = rw c.in-Whole.is
+returns-in-Some c = rw c.in-Some.is
 
-pub returns-in-Between : goal.returns-in-Between
+pub returns-in-None : goal.returns-in-None
 unfolding whole_micros
-returns-in-Between c = rw c.in-Between.is
+returns-in-None c = rw c.in-None.is

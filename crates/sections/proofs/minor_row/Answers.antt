@@ -4,10 +4,10 @@ use Rattle.sections.specs.Version.{minor_row}
 use Rattle.places.proofs.Answers.{told}
 use Rattle.sections.proofs.minor_row.Goals as goal
 
-pub returns-in-Value : goal.returns-in-Value
+pub returns-in-Some : goal.returns-in-Some
 unfolding minor_row
-returns-in-Value c = told (minor_row _) (c.went.ensures ∙ rw c.edition_of.ensures) c.in-Value.is
+returns-in-Some c = told (minor_row _) (c.went.ensures ∙ rw c.edition_of.ensures) c.in-Some.is
 
-pub returns-in-Bad : goal.returns-in-Bad
+pub returns-in-None : goal.returns-in-None
 unfolding minor_row
-returns-in-Bad c = told (minor_row _) c.refused.ensures c.in-Bad.is
+returns-in-None c = told (minor_row _) c.refused.ensures c.in-None.is

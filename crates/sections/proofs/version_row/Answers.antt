@@ -2,10 +2,10 @@
 use Rattle.sections.specs.Version.{version_row}
 use Rattle.sections.proofs.version_row.Goals as goal
 
-pub returns-in-Value : goal.returns-in-Value
+pub returns-in-Some : goal.returns-in-Some
 unfolding version_row
-returns-in-Value c = rw c.before.in-Value.is c.went.ensures
+returns-in-Some c = rw c.before.in-Some.is c.went.ensures
 
-pub returns-in-Bad : goal.returns-in-Bad
+pub returns-in-None : goal.returns-in-None
 unfolding version_row
-returns-in-Bad c = rw c.before.in-Bad.is c.refused.ensures
+returns-in-None c = rw c.before.in-None.is c.refused.ensures

@@ -20,12 +20,12 @@ slice_bounds-read_decimal-start c = (field-at _ _ _ c.next_field-field.ensures (
 pub slice_bounds-read_decimal-end : goal.slice_bounds-read_decimal-end
 slice_bounds-read_decimal-end c = (field-at _ _ _ c.next_field-field.ensures (omega arith)).within
 
-pub returns-in-Value : goal.returns-in-Value
+pub returns-in-Some : goal.returns-in-Some
 unfolding number_item
-returns-in-Value c =
-    item-one (field-at _ _ _ c.next_field-field.ensures (omega arith)).field (no_field _ _ _ c.next_field-second.ensures c.if-second-line.false) _ c.read_decimal.ensures c.in-Value.is
+returns-in-Some c =
+    item-one (field-at _ _ _ c.next_field-field.ensures (omega arith)).field (no_field _ _ _ c.next_field-second.ensures c.if-second-line.false) _ c.read_decimal.ensures c.in-Some.is
 
-pub returns-in-Bad : goal.returns-in-Bad
+pub returns-in-None : goal.returns-in-None
 unfolding number_item
-returns-in-Bad c =
-    item-one (field-at _ _ _ c.next_field-field.ensures (omega arith)).field (no_field _ _ _ c.next_field-second.ensures c.if-second-line.false) _ c.read_decimal.ensures c.in-Bad.is
+returns-in-None c =
+    item-one (field-at _ _ _ c.next_field-field.ensures (omega arith)).field (no_field _ _ _ c.next_field-second.ensures c.if-second-line.false) _ c.read_decimal.ensures c.in-None.is

@@ -18,6 +18,6 @@ overflow_add-result c =
     let w = stands-within _ _ _ (sym c.stands_at.ensures ∙ c.if-not-stands_at.false) in
     omega (arith, w)
 
-pub returns-in-Value : goal.returns-in-Value
-returns-in-Value c =
-    value-held _ _ _ _ c.requires _ c.spell-number.ensures (omega arith) (omega arith) (sym c.stands_at.ensures ∙ c.if-not-stands_at.false) _ _ c.pointed.ensures c.in-Value.is
+pub returns-in-Some : goal.returns-in-Some
+returns-in-Some c =
+    value-held _ _ _ _ c.requires _ c.spell-number.ensures (omega arith) (omega arith) (sym c.stands_at.ensures ∙ c.if-not-stands_at.false) _ _ c.pointed.ensures c.in-Some.is

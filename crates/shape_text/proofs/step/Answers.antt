@@ -8,12 +8,12 @@ use Rattle.shape_text.proofs.step.Goals as goal
 pub returns-then-i-eq0 : goal.returns-then-i-eq0
 returns-then-i-eq0 c = rd-at _ (omega arith) ∙ step-first c.args.samples.now c.args.i c.if-i-eq0.true
 
-pub returns-in-Value : goal.returns-in-Value
-returns-in-Value c = rd-at _ (omega arith) ∙ value-is c.in-Value.is (
+pub returns-in-Some : goal.returns-in-Some
+returns-in-Some c = rd-at _ (omega arith) ∙ value-is c.in-Some.is (
     step-later c.args.samples.now c.args.i c.requires.0 c.requires.1 c.if-i-eq0.false
     (rd-at _ (omega arith)) (rd-at _ (omega arith)) c.minus.ensures)
 
-pub returns-in-Beyond : goal.returns-in-Beyond
-returns-in-Beyond c = absurd (not_beyond (
+pub returns-in-None : goal.returns-in-None
+returns-in-None c = absurd (not_beyond (
     step-later c.args.samples.now c.args.i c.requires.0 c.requires.1 c.if-i-eq0.false
-    (rd-at _ (omega arith)) (rd-at _ (omega arith)) c.minus.ensures) c.in-Beyond.is)
+    (rd-at _ (omega arith)) (rd-at _ (omega arith)) c.minus.ensures) c.in-None.is)

@@ -1,11 +1,11 @@
 -- `signed::added` meets its contract: of two numbers with the same sign the sizes are added; of others the smaller is taken from the larger,
 -- whose sign the sum has. Assumes nothing.
+use Rattle.std.proofs.Common.{None, Some}
 use Prim.Native.Nat.{ℕ, ◌+◌, ◌-◌, ◌≤◌, ◌<◌, min}
 use mathlib.Core.Path.{◌≡◌, sym, ap, ◌∙◌}
 use mathlib.Core.Bool.{Bool, true, false, beq}
 use native.Mathlib.Omega.{arith}
 use lib.IntN.{ℤ, nat_abs, ◌+ℤ◌}
-use Rattle.signed.specs.declared.Sum.TheVariants.{Value, Beyond}
 use Rattle.signed.specs.Signed.{largest, signed_of, within}
 use Rattle.signed.proofs.Machine.{rd, rd-is, sfits-abs}
 use Rattle.signed.proofs.Sign.{size-signed, signed-sum, within-value, within-beyond}
@@ -35,14 +35,14 @@ module _ (most : ℕ) {z : ℤ} (s : Bool) (n : ℕ) (e : z ≡ signed_of s n) w
   size : nat_abs z ≡ n
   size = ap nat_abs e ∙ size-signed s n
 
-  beyond : most < n → Beyond ≡ within most z
+  beyond : most < n → None ≡ within most z
   beyond h = sym (within-beyond most z (omega (arith, size)))
 
-  value : {r : ℤ} → r ≡ signed_of s (min n largest) → n ≤ most → most ≤ largest → Value (rd r) ≡ within most z
+  value : {r : ℤ} → r ≡ signed_of s (min n largest) → n ≤ most → most ≤ largest → Some (rd r) ≡ within most z
   value {r} p h k =
       let held : min n largest ≡ n = omega arith in
       let is : r ≡ z = p ∙ ap (signed_of s) held ∙ sym e in
-      ap Value (rd-is (sfits-abs r (omega (arith, ap nat_abs is, size))) ∙ is) ∙ sym (within-value most z (omega (arith, size)) (omega (arith, size)))
+      ap Some (rd-is (sfits-abs r (omega (arith, ap nat_abs is, size))) ∙ is) ∙ sym (within-value most z (omega (arith, size)) (omega (arith, size)))
 
 pub returns-then-most-a : goal.returns-then-most-a
 returns-then-most-a c =
