@@ -1,6 +1,7 @@
 -- The samples of a file: each shape expands exactly when none fails, and the lent samples then hold what the shapes expand to, sample for sample.
 -- Assumes nothing.
-use Rattle.std.proofs.Common.{None, Option, Some}
+use Rattle.shape.specs.declared.Unexpanded.TheVariants.{Field, Shape, Room}
+use Rattle.std.proofs.Common.{None, Option, Some, Err, Ok}
 use Prim.Native.Nat.{ℕ, zero, suc, ◌+◌, ◌-◌, ◌^◌, ◌≤◌, ◌<◌}
 use mathlib.Core.Bool.{Bool, true, false, cond, ◌&&◌, true≢false}
 use mathlib.Core.List.{List, [], ◌∷◌}
@@ -22,7 +23,6 @@ use Rattle.shape.specs.Samples.{sum_to, add_of, is_plain}
 use Rattle.expanding.specs.Expand.{Trace, done, fault, next, then_sum, sums_of, plain_of, fresh_of, trace_of, samples_in, expands_to, expansion_of}
 use Rattle.expanding.specs.Alone.{is_count, expanded_of, table_of}
 use Rattle.shape.specs.declared.Edition.{Edition}
-use Rattle.shape.specs.declared.Expanded.TheVariants.{Samples, Field, Shape, Room}
 use Rattle.file.specs.Rows.{Placed}
 use Rattle.file_laws.specs.Stacked.{Stacked, no_row, one-row}
 use Rattle.exact_lengths.specs.Tables.{SamplesIn}
@@ -41,18 +41,18 @@ stacked-sum (one-row p t) = let h = stacked-sum t in omega arith
 
 -- ---- a shape that does not fail expands to its declared number of samples
 module _ (e : Edition) (num : ℕ) (text : List ℕ) where
-  answer-samples : (a b : Bool) → failed (cond a (cond b (cond (leb num num) (Samples num) Room) Shape) Field) ≡ false
-      → cond a (cond b (cond (leb num num) (Samples num) Room) Shape) Field ≡ Samples num
+  answer-samples : (a b : Bool) → failed (cond a (cond b (cond (leb num num) (Ok num) (Err Room)) (Err Shape)) (Err Field)) ≡ false
+      → cond a (cond b (cond (leb num num) (Ok num) (Err Room)) (Err Shape)) (Err Field) ≡ Ok num
   unfolding failed
   answer-samples true true f = rw (le-leb num num (omega arith))
   answer-samples true false f = absurd (true≢false f)
   answer-samples false b f = absurd (true≢false f)
 
-  alone_of : failed (expanded_of e num text num) ≡ false → expanded_of e num text num ≡ Samples num
+  alone_of : failed (expanded_of e num text num) ≡ false → expanded_of e num text num ≡ Ok num
   unfolding expanded_of
   alone_of = answer-samples (is_count num && all_sound (lines_of text)) (expands_to num (expansion_of e num (values_of text)))
 
-  of-alone : expanded_of e num text num ≡ Samples num → failed (expanded_of e num text num) ≡ false
+  of-alone : expanded_of e num text num ≡ Ok num → failed (expanded_of e num text num) ≡ false
   unfolding failed
   of-alone p = rw p
 

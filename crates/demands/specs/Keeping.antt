@@ -1,12 +1,11 @@
 -- "With sound site definitions, a file is accepted exactly when it keeps to the lent tables, the paper's limits and its own edition's rules, 1.3 or
 -- 1.4". What that means, and what the tables then hold.
-use Rattle.std.specs.Prelude.{ℕ, suc, ◌+◌, ◌*◌, ◌/◌, ◌^◌, ◌≤◌, ◌<◌, true, false, cond, ◌&&◌, List, [], ◌∷◌, ◌≡◌, eqb, ℤ, pos, length, get_or, take, drop}
+use Rattle.std.specs.Prelude.{ℕ, suc, ◌+◌, ◌*◌, ◌/◌, ◌^◌, ◌≤◌, ◌<◌, true, false, cond, ◌&&◌, List, [], ◌∷◌, ◌≡◌, eqb, ℤ, pos, length, get_or, take, drop, Ok}
 use Rattle.text.specs.Lines.{lines_of}
 use Rattle.unit.specs.declared.Rasters.{Rasters}
 use Rattle.expanding.specs.Alone.{expanded_of, table_of}
 use Rattle.shape.specs.declared.Edition.{Edition}
 use Rattle.shape.specs.declared.Edition.TheVariants.{V14}
-use Rattle.shape.specs.declared.Expanded.TheVariants.{Samples}
 use Rattle.columns.specs.Rows.{row_width}
 use Rattle.places.specs.Places.{fresh, ending_of}
 use Rattle.places.specs.declared.State.{State}
@@ -58,7 +57,7 @@ pub record RastersGood (e : Edition) (q : Rasters) : Type 0 where
 
 -- ---- "each shape expands to its declared number of samples": its stored lines, by themselves
 abbrev pub Expands : Edition → List ℕ → List ℤ → ℕ → Type 0
-Expands e file rows k = expanded_of e (num_at rows k) (text_at file rows k) (num_at rows k) ≡ Samples (num_at rows k)
+Expands e file rows k = expanded_of e (num_at rows k) (text_at file rows k) (num_at rows k) ≡ Ok (num_at rows k)
 
 -- the samples of n rows, sample for sample: each shape's part holds what its stored lines expand to, and all else is zero
 pub record SamplesHeld (e : Edition) (file : List ℕ) (rows : List ℤ) (n size : ℕ) (samples : List ℤ) : Type 0 where

@@ -11,7 +11,7 @@ ghost use Rattle.expanding.specs.Alone.{Expansion};
 ghost use Rattle.expanding.specs.Inside.{mark_holds, lines_hold, NextIs, judged, soundly, told, Ran, Begun, Went, PairWent, refusal_of, LaidAll};
 
 use numeral::Decimal;
-use shape::{Edition, Expanded, Item};
+use shape::{Edition, Expanded, Item, Unexpanded};
 use text::Mark;
 
 // The next value from a place on, with the place behind its line; or that there is none, or that a line in front of it is at fault.
@@ -361,8 +361,8 @@ fn refusal(stored: &[u8]) -> Expanded
     ensures { result ≡ refusal_of (count_of stored.now) }
 {
     match shape::count_values(stored) {
-        Some(_) => Expanded::Shape,
-        None => Expanded::Field,
+        Some(_) => Err(Unexpanded::Shape),
+        None => Err(Unexpanded::Field),
     }
 }
 
@@ -371,40 +371,25 @@ fn lay_all(stored: &[u8], num: usize, edition: Edition, samples: &mut [i64]) -> 
     ensures { LaidAll edition num stored.now samples.old samples.new result }
 {
     if num == 0 {
-        return Expanded::Field;
+        return Err(Unexpanded::Field);
     }
     if 1000000 < num {
-        return Expanded::Field;
+        return Err(Unexpanded::Field);
     }
     if !lay(stored, samples, num, are_samples(stored, num, edition)) {
         return refusal(stored);
     }
     if samples.len() < num {
-        return Expanded::Room;
+        return Err(Unexpanded::Room);
     }
-    Expanded::Samples(num)
+    Ok(num)
 }
 
 // Expands stored lines into num samples, in steps of 10^-12. What is lent holds the samples and then zeros; on a refusal, zeros.
 pub fn expand(stored: &[u8], num: usize, edition: Edition, samples: &mut [i64]) -> Expanded
     ensures { Expansion edition num stored.now samples.old result samples.new }
 {
-    match lay_all(stored, num, edition, samples) {
-        Expanded::Samples(n) => {
-            output::clear_numbers(samples, n);
-            Expanded::Samples(n)
-        }
-        Expanded::Field => {
-            output::clear_numbers(samples, 0);
-            Expanded::Field
-        }
-        Expanded::Shape => {
-            output::clear_numbers(samples, 0);
-            Expanded::Shape
-        }
-        Expanded::Room => {
-            output::clear_numbers(samples, 0);
-            Expanded::Room
-        }
-    }
+    let laid = lay_all(stored, num, edition, samples);
+    output::clear_numbers(samples, shape::used_of(laid));
+    laid
 }

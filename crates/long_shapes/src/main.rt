@@ -41,8 +41,8 @@ fn put_count(out: &mut [u8], at: usize, name: &[u8], n: u64) -> usize {
 // Writes the line of an answer.
 fn show(e: Expanded) {
     let mut out = [0u8; 64];
-    let a = put_count(&mut out, 0, b"answer ", e.number());
-    let b = put_count(&mut out, a, b" used ", e.used() as u64);
+    let a = put_count(&mut out, 0, b"answer ", shape::number_of(e));
+    let b = put_count(&mut out, a, b" used ", shape::used_of(e) as u64);
     let c = output::put_byte(&mut out, b, 10);
     io::write_all(STDOUT_FILENO, output::front(&out, c));
 }

@@ -1,5 +1,7 @@
 -- Laws of what is told: the loop that lays numbers over an answer, the editions, and what each function tells. Assumes nothing.
-use Rattle.std.proofs.Common.{None, Some}
+use Rattle.shape_text.specs.declared.Unwritten.{Unwritten}
+use Rattle.shape.specs.declared.Unexpanded.{Unexpanded}
+use Rattle.std.proofs.Common.{None, Some, Result}
 use Prim.Native.Nat.{ℕ, zero, suc, ◌+◌, ◌-◌, ◌≤◌, ◌<◌}
 use mathlib.Core.List.{List, [], ◌∷◌, ◌++◌, append_assoc, append-nil}
 use mathlib.Core.Path.{◌≡◌, refl, sym, ap, ◌∙◌}
@@ -13,9 +15,7 @@ use Rattle.shape.specs.declared.Edition.{Edition}
 use Rattle.shape.specs.declared.Edition.TheVariants.{V13, V14}
 use Rattle.shape.specs.Answers.{number_of, used_of}
 use Rattle.expanding.specs.Alone.{Expansion}
-use Rattle.shape.specs.declared.Expanded.{Expanded}
 use Rattle.shape_text.specs.Written.{length_of, Writing, number_of as written_number}
-use Rattle.shape_text.specs.declared.Written.{Written}
 use Rattle.answers.specs.Answers.{answer_number, answer_line, rows_used, samples_used}
 use Rattle.answers.specs.declared.Answer.{Answer}
 use Rattle.reader.specs.Reading.{Reading, zeros}
@@ -108,12 +108,12 @@ read-tells {r = r} d a b c e {answer = answer} w = record {
 
 -- ---- what expanding tells, in an edition and in none
 module _ {text : List ℕ} {num edition : ℕ} {l : List ℤ} {l' : List ℤ} {answer answer' : List ℕ} where
-  pub expand-tells : {e : Edition} → edition_of edition ≡ Some e → {r : Expanded} → Expansion e num text l r l' → {n used : ℕ} → n ≡ number_of r → used ≡ used_of r
+  pub expand-tells : {e : Edition} → edition_of edition ≡ Some e → {r : (Result ℕ Unexpanded)} → Expansion e num text l r l' → {n used : ℕ} → n ≡ number_of r → used ≡ used_of r
       → answer' ≡ told (length answer) (n ∷ used ∷ []) → ExpandTold text num edition l answer l' answer'
   unfolding expand_samples expand_answer
   expand-tells k d a b w = record {
     samples = rw k d.samples;
-    numbers = rw k (rw (a, b) at w ∙ ap (λ (x : Expanded). told (length answer) (expand_numbers x)) d.answer);
+    numbers = rw k (rw (a, b) at w ∙ ap (λ (x : (Result ℕ Unexpanded)). told (length answer) (expand_numbers x)) d.answer);
   }
 
   pub expand-none : edition_of edition ≡ None → l' ≡ zeros (length l) → answer' ≡ told (length answer) (3 ∷ 0 ∷ []) → ExpandTold text num edition l answer l' answer'
@@ -122,12 +122,12 @@ module _ {text : List ℕ} {num edition : ℕ} {l : List ℤ} {l' : List ℤ} {a
 
 -- ---- what writing tells, in an edition and in none
 module _ {zs : List ℤ} {edition : ℕ} {l l' answer answer' : List ℕ} where
-  pub write-tells : {e : Edition} → edition_of edition ≡ Some e → {r : Written} → Writing e zs l r l' → {n size : ℕ} → n ≡ written_number r → size ≡ length_of r
+  pub write-tells : {e : Edition} → edition_of edition ≡ Some e → {r : (Result ℕ Unwritten)} → Writing e zs l r l' → {n size : ℕ} → n ≡ written_number r → size ≡ length_of r
       → answer' ≡ told (length answer) (n ∷ size ∷ []) → WriteTold zs edition l answer l' answer'
   unfolding write_output write_answer
   write-tells k d a b w = record {
     output = rw k d.output;
-    numbers = rw k (rw (a, b) at w ∙ ap (λ (x : Written). told (length answer) (write_numbers x)) d.answer);
+    numbers = rw k (rw (a, b) at w ∙ ap (λ (x : (Result ℕ Unwritten)). told (length answer) (write_numbers x)) d.answer);
   }
 
   pub write-none : edition_of edition ≡ None → l' ≡ replicate (length l) 0 → answer' ≡ told (length answer) (3 ∷ 0 ∷ []) → WriteTold zs edition l answer l' answer'

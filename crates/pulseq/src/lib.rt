@@ -68,8 +68,8 @@ pub fn pulseq_expand(stored: &[u8], num: u64, edition: u64, samples: &mut [i64],
     match edition_of(edition) {
         Some(known) => {
             let expanded = expanding::expand(stored, num as usize, known, samples);
-            let number = expanded.number();
-            let used = expanded.used() as u64;
+            let number = shape::number_of(expanded);
+            let used = shape::used_of(expanded) as u64;
             let numbers = [number, used];
             tell(answer, &numbers);
         }
@@ -88,8 +88,8 @@ pub fn pulseq_write(samples: &[i64], edition: u64, out: &mut [u8], answer: &mut 
     match edition_of(edition) {
         Some(known) => {
             let written = shape_text::write(samples, known, out);
-            let number = written.number();
-            let size = written.size() as u64;
+            let number = shape_text::number_of(written);
+            let size = shape_text::length_of(written) as u64;
             let numbers = [number, size];
             tell(answer, &numbers);
         }

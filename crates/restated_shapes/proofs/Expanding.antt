@@ -1,4 +1,5 @@
 -- The stored lines of a restated shape expand to the samples that were written, in either edition. Assumes nothing.
+use Rattle.std.proofs.Common.{Ok}
 use Prim.Native.Nat.{ℕ, ◌-◌, ◌≤◌}
 use mathlib.Core.Bool.{true}
 use mathlib.Core.List.{List, ◌++◌, append-nil}
@@ -8,7 +9,6 @@ use borrow.Author.Tests.{le-leb}
 use lib.IntN.{ℤ, pos}
 use lib.ListN.{length, replicate}
 use Rattle.shape.specs.declared.Edition.{Edition}
-use Rattle.shape.specs.declared.Expanded.TheVariants.{Samples}
 use Rattle.expanding.specs.Alone.{expanded_of, table_of}
 use Rattle.shape_text.specs.Written.{all_within, stored_text, is_writable}
 use Rattle.shape_text.proofs.Back.{written_back}
@@ -18,7 +18,7 @@ module _ (target : Edition) (zs : List ℤ) (w : all_within zs ≡ true) (some :
   unfolding is_writable
   writable = rw (le-leb 1 (length zs) some, le-leb (length zs) 1000000 few, w)
 
-  pub expands-back : expanded_of target (length zs) (stored_text target zs) (length zs) ≡ Samples (length zs)
+  pub expands-back : expanded_of target (length zs) (stored_text target zs) (length zs) ≡ Ok (length zs)
   unfolding stored_text
   expands-back = rw w (written_back target zs writable (length zs) (omega arith)).0
 

@@ -1,4 +1,7 @@
 -- One shape: when it does not fail, and what its part of the lent samples holds then. Assumes nothing.
+use Rattle.shape.specs.declared.Unexpanded.TheVariants.{Room, Field, Shape}
+use Rattle.shape.specs.declared.Unexpanded.{Unexpanded}
+use Rattle.std.proofs.Common.{Result, Ok, Err}
 use Prim.Native.Nat.{ℕ, ◌+◌, ◌-◌, ◌≤◌}
 use mathlib.Core.Bool.{Bool, true, false, cond, not, ◌&&◌, true≢false}
 use mathlib.Core.List.{List, ◌++◌, append-nil}
@@ -14,8 +17,6 @@ use Rattle.shape.specs.Stored.{all_sound, values_of}
 use Rattle.expanding.specs.Expand.{samples_in, ends_well, expands_to, expansion_of}
 use Rattle.expanding.specs.Alone.{is_count, expanded_of, table_from, samples_after, table_of}
 use Rattle.shape.specs.declared.Edition.{Edition}
-use Rattle.shape.specs.declared.Expanded.{Expanded}
-use Rattle.shape.specs.declared.Expanded.TheVariants.{Samples, Field, Shape, Room}
 use Rattle.sampling.specs.Sampling.{failed}
 
 module _ (edition : Edition) (num : ℕ) (text : List ℕ) where
@@ -31,7 +32,7 @@ module _ (edition : Edition) (num : ℕ) (text : List ℕ) where
     pub fits : num ≤ room
 
   module _ (room : ℕ) where
-    answered : (a b c d : Bool) → failed (cond (a && b) (cond c (cond d (Samples num) Room) Shape) Field) ≡ false
+    answered : (a b c d : Bool) → failed (cond (a && b) (cond c (cond d (Ok num) (Err Room)) (Err Shape)) (Err Field)) ≡ false
         → (a ≡ true) × (b ≡ true) × (c ≡ true) × (d ≡ true)
     unfolding failed
     answered true true true true e = (refl, refl, refl, refl)
@@ -61,11 +62,11 @@ module _ (edition : Edition) (num : ℕ) (text : List ℕ) where
     unfolding table_of failed samples_after
     table-zeros e = go (expanded_of edition num text room) e
       where
-        go : (r : Expanded) → failed r ≡ true → samples_after r samples_of room ≡ replicate room (pos 0)
-        go (Samples n) f = absurd (true≢false (sym f))
-        go Field f = refl
-        go Shape f = refl
-        go Room f = refl
+        go : (r : (Result ℕ Unexpanded)) → failed r ≡ true → samples_after r samples_of room ≡ replicate room (pos 0)
+        go (Ok n) f = absurd (true≢false (sym f))
+        go (Err Field) f = refl
+        go (Err Shape) f = refl
+        go (Err Room) f = refl
 
     pub table-length : length (table_of edition num text room) ≡ room
     unfolding table_from
@@ -97,6 +98,6 @@ unfolding expanded_of is_count failed
 fails-exact edition num text room some few fits sound =
     rw (le-leb 1 num some, le-leb num 1000000 few, sound, le-leb num room fits) (go (expands_to num (expansion_of edition num (values_of text))))
   where
-    go : (b : Bool) → failed (cond b (Samples num) Shape) ≡ not b
+    go : (b : Bool) → failed (cond b (Ok num) (Err Shape)) ≡ not b
     go true = refl
     go false = refl

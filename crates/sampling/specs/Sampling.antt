@@ -1,6 +1,8 @@
 -- The shapes of a whole file, expanded. "SHAPE: stored values don't expand". Rows are those of an arbitrary table, and size is how many samples are
 -- lent.
-use Rattle.std.specs.Prelude.{ℕ, zero, suc, ◌+◌, ◌-◌, ◌≤◌, ◌<◌, min, Bool, true, false, cond, ◌&&◌, List, ◌⊎◌, ◌≡◌, ℤ, pos, nat_abs, length}
+use Rattle.shape.specs.declared.Unexpanded.TheVariants.{Room, Field, Shape}
+use Rattle.shape.specs.declared.Unexpanded.{Unexpanded}
+use Rattle.std.specs.Prelude.{ℕ, zero, suc, ◌+◌, ◌-◌, ◌≤◌, ◌<◌, min, Bool, true, false, cond, ◌&&◌, List, ◌⊎◌, ◌≡◌, ℤ, pos, nat_abs, length, Result, Ok, Err}
 use Rattle.std.proofs.lemmas.List.Edits.{sets}
 use Rattle.signed.specs.Signed.{same_z}
 use Rattle.columns.specs.Columns.{shape_kind}
@@ -8,8 +10,6 @@ use Rattle.shape.specs.Stored.{values_of}
 use Rattle.expanding.specs.Expand.{Trace, expansion_of}
 use Rattle.expanding.specs.Alone.{expanded_of, table_of}
 use Rattle.shape.specs.declared.Edition.{Edition}
-use Rattle.shape.specs.declared.Expanded.{Expanded}
-use Rattle.shape.specs.declared.Expanded.TheVariants.{Samples, Field, Shape, Room}
 use Rattle.stored.specs.Shapes.{stored_of}
 use Rattle.tables.specs.Tables.{first_such, number_at}
 
@@ -38,11 +38,11 @@ unfoldable pub room_at : List ℤ → ℕ → ℕ → ℕ
 room_at rows size k = min (num_at rows k) (size - from_at rows size k)
 
 -- ---- SHAPE, asked of one row, and the first of n rows that breaks it
-unfoldable pub failed : Expanded → Bool
-failed (Samples n) = false
-failed Field = true
-failed Shape = true
-failed Room = true
+unfoldable pub failed : (Result ℕ Unexpanded) → Bool
+failed (Ok n) = false
+failed (Err Field) = true
+failed (Err Shape) = true
+failed (Err Room) = true
 
 unfoldable pub fails_at : Edition → List ℕ → List ℤ → ℕ → ℕ → Bool
 fails_at edition file rows size k = is_shape_row rows k && failed (expanded_of edition (num_at rows k) (text_at file rows k) (room_at rows size k))

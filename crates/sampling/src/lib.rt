@@ -40,12 +40,7 @@ fn size_at(rows: &[i64], k: usize, c: usize) -> usize
 fn has_failed(expanded: Expanded) -> bool
     ensures { result ≡ failed expanded }
 {
-    match expanded {
-        Expanded::Samples(_) => false,
-        Expanded::Field => true,
-        Expanded::Shape => true,
-        Expanded::Room => true,
-    }
+    expanded.is_err()
 }
 
 // Expands the shape of row k, whose stored lines these are, into its part of the lent samples. Has it failed?

@@ -21,39 +21,34 @@ pub enum Edition {
     V14,
 }
 
-// What expanding answers: how many samples, or the refusal FIELD, SHAPE or ROOM.
-#[derive(Clone, Copy)]
-pub enum Expanded {
-    Samples(usize),
+// Why stored lines are not expanded: the refusals FIELD, SHAPE and ROOM.
+#[derive(Clone, Copy, PartialEq, Eq)]
+pub enum Unexpanded {
     Field,
     Shape,
     Room,
 }
 
-impl Expanded {
-    // The paper's number of this answer.
-    pub fn number(self) -> u64
-        ensures { result ≡ number_of self }
-    {
-        match self {
-            Expanded::Samples(_) => 0,
-            Expanded::Field => 5,
-            Expanded::Shape => 11,
-            Expanded::Room => 7,
-        }
-    }
+// What expanding answers: how many samples, or why there are none.
+pub type Expanded = Result<usize, Unexpanded>;
 
-    // How many samples it gives.
-    pub fn used(self) -> usize
-        ensures { result ≡ used_of self }
-    {
-        match self {
-            Expanded::Samples(n) => n,
-            Expanded::Field => 0,
-            Expanded::Shape => 0,
-            Expanded::Room => 0,
-        }
+// The paper's number of what expanding answers.
+pub fn number_of(expanded: Expanded) -> u64
+    ensures { result ≡ number_of expanded }
+{
+    match expanded {
+        Ok(_) => 0,
+        Err(Unexpanded::Field) => 5,
+        Err(Unexpanded::Shape) => 11,
+        Err(Unexpanded::Room) => 7,
     }
+}
+
+// How many samples expanding gives.
+pub fn used_of(expanded: Expanded) -> usize
+    ensures { result ≡ used_of expanded }
+{
+    expanded.unwrap_or(0)
 }
 
 // What a stored line holds.

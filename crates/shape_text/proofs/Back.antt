@@ -1,4 +1,5 @@
 -- A written shape reads back as the same samples, in either edition. Assumes nothing.
+use Rattle.std.proofs.Common.{Ok}
 use Prim.Native.Nat.{ℕ, ◌-◌, ◌*◌, ◌^◌, ◌≤◌}
 use mathlib.Core.Bool.{Bool, true, false, cond, not}
 use mathlib.Core.List.{List, ◌++◌, map}
@@ -18,7 +19,6 @@ use Rattle.expanding.specs.Expand.{Trace, sums_of, trace_of, samples_in, expands
 use Rattle.expanding.specs.Alone.{is_count, expanded_of, table_from, samples_after, table_of}
 use Rattle.shape.specs.declared.Edition.{Edition}
 use Rattle.shape.specs.declared.Edition.TheVariants.{V13, V14}
-use Rattle.shape.specs.declared.Expanded.TheVariants.{Samples}
 use Rattle.shape_text.specs.Written.{differences_from, runs_of, packed_lines, plain_lines, is_plain_text, stored_lines, ended_lines, text_of, all_within, is_writable}
 use Rattle.shape_text.proofs.Reread.{HoldAll, hold-length, hold-reads}
 use Rattle.shape_text.proofs.Longest.{AllIn, within_all, differences-all, differences-length, runs-longest, runs_values, runs-hold, plain-hold}
@@ -106,7 +106,7 @@ written-samples edition zs w =
     (x.sound, rw (x.trace, traced-ends zs, traced-samples zs) (eq-eqb (length zs) (length zs) refl), rw x.trace (traced-samples zs))
 
 back-answer : (edition : Edition) (zs : List ℤ) → is_writable zs ≡ true → (room : ℕ) → length zs ≤ room
-    → expanded_of edition (length zs) (text_of edition zs) room ≡ Samples (length zs)
+    → expanded_of edition (length zs) (text_of edition zs) room ≡ Ok (length zs)
 unfolding expanded_of
 back-answer edition zs w room h =
     let s = written-samples edition zs w in
@@ -118,7 +118,7 @@ unfolding table_of samples_after
 back-table edition zs w room h = rw (back-answer edition zs w room h, (written-samples edition zs w).2)
 
 pub written_back : (edition : Edition) (zs : List ℤ) → is_writable zs ≡ true → (room : ℕ) → length zs ≤ room
-    → (expanded_of edition (length zs) (text_of edition zs) room ≡ Samples (length zs))
+    → (expanded_of edition (length zs) (text_of edition zs) room ≡ Ok (length zs))
     × (table_of edition (length zs) (text_of edition zs) room ≡ zs ++ replicate (room - length zs) (pos 0))
 unfolding table_from
 written_back edition zs w room h = (back-answer edition zs w room h, back-table edition zs w room h)

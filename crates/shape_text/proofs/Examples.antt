@@ -1,4 +1,6 @@
 -- Worked examples, computed from the definitions. Assumes nothing.
+use Rattle.shape_text.specs.declared.Unwritten.TheVariants.{Shape}
+use Rattle.std.proofs.Common.{Err}
 use mathlib.Core.List.{[], ◌∷◌}
 use mathlib.Core.Path.{◌≡◌, refl}
 use lib.IntN.{pos, negsuc}
@@ -6,7 +8,6 @@ use Rattle.signed.specs.Signed.{is_negative, signed_of, same_z}
 use Rattle.decimals.specs.Decimal.{strip_in, strip_from, kept}
 use Rattle.print.specs.Printed.{digits_in, digits_of, number_text, signed_text, power_text, decimal_text, sample_text}
 use Rattle.shape.specs.declared.Edition.TheVariants.{V13, V14}
-use Rattle.shape_text.specs.declared.Written.TheVariants.{Shape}
 use Rattle.shape_text.specs.Written.{differences_from, on_run, runs_of, run_lines, runs_lines, packed_lines, plain_lines, is_plain_text, stored_lines, ended_lines, text_of, all_within, is_writable, written_of, output_after, output_of}
 
 -- 0, 0, 1 has the differences 0, 0, 1: in 1.3 these are 0, 0, a count of 0 more, and 1
@@ -36,6 +37,6 @@ unfolding output_of output_after written_of is_writable all_within text_of ended
 single = refl
 
 -- a step beyond 100,000 is refused
-beyond : written_of V13 (pos 100000000000000001 ∷ []) 100 ≡ Shape
+beyond : written_of V13 (pos 100000000000000001 ∷ []) 100 ≡ (Err Shape)
 unfolding written_of is_writable all_within
 beyond = refl

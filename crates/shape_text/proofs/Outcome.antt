@@ -1,4 +1,6 @@
 -- What writing answers, and what it leaves in the lent output, at each of its returns. Assumes nothing.
+use Rattle.shape_text.specs.declared.Unwritten.TheVariants.{Shape, Output}
+use Rattle.std.proofs.Common.{Err, Ok}
 use Prim.Native.Nat.{ℕ, ◌-◌, ◌≤◌, ◌<◌, ◌^◌, min}
 use mathlib.Core.Bool.{Bool, true, false}
 use mathlib.Core.List.{List, []}
@@ -14,7 +16,6 @@ use Rattle.text.proofs.Cases.{lt-or-ge}
 use Rattle.output.proofs.Over.{put_front, put-length}
 use Rattle.shape.specs.declared.Edition.{Edition}
 use Rattle.shape.specs.declared.Edition.TheVariants.{V13, V14}
-use Rattle.shape_text.specs.declared.Written.TheVariants.{Text, Shape, Output}
 use Rattle.shape_text.specs.Written.{is_plain_text, ended_lines, plain_lines, packed_lines, stored_lines, text_of, all_within, stored_text, is_writable, written_of, output_after, output_of, Writing}
 
 -- ---- is_plain_text
@@ -56,12 +57,12 @@ unfolding cleared_from
 cleared-all l = let e : length l - 0 ≡ length l = omega arith in rw e
 
 module _ (edition : Edition) (zs : List ℤ) where
-  pub wrote-shape : {l l' : List ℕ} → is_writable zs ≡ false → l' ≡ cleared_from 0 0 l → Writing edition zs l Shape l'
+  pub wrote-shape : {l l' : List ℕ} → is_writable zs ≡ false → l' ≡ cleared_from 0 0 l → Writing edition zs l (Err Shape) l'
   unfolding written_of output_of output_after
   wrote-shape {l} e c = record { answer = rw e; output = rw e (c ∙ cleared-all l) }
 
   module _ {l l₁ l' : List ℕ} {n : ℕ} (w : is_writable zs ≡ true) (p : Put l 0 (text_of edition zs) n l₁) where
-    pub wrote-output : min (length l₁) 16777216 < n → l' ≡ cleared_from 0 0 l₁ → Writing edition zs l Output l'
+    pub wrote-output : min (length l₁) 16777216 < n → l' ≡ cleared_from 0 0 l₁ → Writing edition zs l (Err Output) l'
     unfolding written_of output_of output_after
     wrote-output h c =
         let g : min (length l) (2 ^ 24) < length (text_of edition zs) = omega (arith, p.place, put-length p) in
@@ -70,7 +71,7 @@ module _ (edition : Edition) (zs : List ℤ) where
           output = rw (w, lt-leb (length (text_of edition zs)) (min (length l) (2 ^ 24)) g) (c ∙ cleared-all l₁ ∙ ap (λ (k : ℕ). replicate k 0) (put-length p));
         }
 
-    pub wrote-text : n ≤ length l₁ → n ≤ 16777216 → l' ≡ cleared_from 0 n l₁ → Writing edition zs l (Text n) l'
+    pub wrote-text : n ≤ length l₁ → n ≤ 16777216 → l' ≡ cleared_from 0 n l₁ → Writing edition zs l (Ok n) l'
     unfolding written_of output_of output_after cleared_from
     wrote-text h k c =
         let e : n ≡ length (text_of edition zs) = omega (arith, p.place) in

@@ -9,36 +9,32 @@ ghost use Rattle.shape_text.specs.Inside.{step_at, RunAt};
 
 use shape::Edition;
 
-// What writing answers: the length of the text, or the refusal SHAPE or OUTPUT.
-#[derive(Clone, Copy)]
-pub enum Written {
-    Text(usize),
+// Why samples are not written: the refusals SHAPE and OUTPUT.
+#[derive(Clone, Copy, PartialEq, Eq)]
+pub enum Unwritten {
     Shape,
     Output,
 }
 
-impl Written {
-    // The paper's number of this answer.
-    pub fn number(self) -> u64
-        ensures { result ≡ number_of self }
-    {
-        match self {
-            Written::Text(_) => 0,
-            Written::Shape => 11,
-            Written::Output => 19,
-        }
-    }
+// What writing answers: the length of the text, or why there is none.
+pub type Written = Result<usize, Unwritten>;
 
-    // How long the text is.
-    pub fn size(self) -> usize
-        ensures { result ≡ length_of self }
-    {
-        match self {
-            Written::Text(n) => n,
-            Written::Shape => 0,
-            Written::Output => 0,
-        }
+// The paper's number of what writing answers.
+pub fn number_of(written: Written) -> u64
+    ensures { result ≡ number_of written }
+{
+    match written {
+        Ok(_) => 0,
+        Err(Unwritten::Shape) => 11,
+        Err(Unwritten::Output) => 19,
     }
+}
+
+// How long the text is that writing answers.
+pub fn length_of(written: Written) -> usize
+    ensures { result ≡ length_of written }
+{
+    written.unwrap_or(0)
 }
 
 // Is every sample within ±100,000?
@@ -208,17 +204,17 @@ pub fn write(samples: &[i64], edition: Edition, out: &mut [u8]) -> Written
 {
     if !is_writable(samples) {
         output::clear_bytes(out, 0);
-        return Written::Shape;
+        return Err(Unwritten::Shape);
     }
     let length = put_shape(out, 0, samples, edition);
     if out.len() < length {
         output::clear_bytes(out, 0);
-        return Written::Output;
+        return Err(Unwritten::Output);
     }
     if 16777216 < length {
         output::clear_bytes(out, 0);
-        return Written::Output;
+        return Err(Unwritten::Output);
     }
     output::clear_bytes(out, length);
-    Written::Text(length)
+    Ok(length)
 }

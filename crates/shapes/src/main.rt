@@ -53,9 +53,9 @@ fn edition_of(head: &[u8]) -> Edition {
 // Writes the line of an answer.
 fn put_answer(out: &mut [u8], at: usize, e: Expanded) -> usize {
     let a = output::put_bytes(out, at, b"answer ");
-    let b = print::put_integer(out, a, e.number());
+    let b = print::put_integer(out, a, shape::number_of(e));
     let c = output::put_bytes(out, b, b" used ");
-    let d = print::put_integer(out, c, e.used() as u64);
+    let d = print::put_integer(out, c, shape::used_of(e) as u64);
     output::put_byte(out, d, 10)
 }
 

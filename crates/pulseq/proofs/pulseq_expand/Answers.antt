@@ -6,7 +6,7 @@ use mathlib.Core.Path.{sym, ◌∙◌}
 use Rattle.pulseq.proofs.pulseq_expand.Goals as goal
 
 pub returns-in-Some : goal.returns-in-Some
-returns-in-Some c = expand-tells (sym c.edition_of.ensures ∙ c.in-Some.is) c.expand-expanded.ensures c.number-number.ensures c.used-used.ensures c.tell.ensures
+returns-in-Some c = expand-tells (sym c.edition_of.ensures ∙ c.in-Some.is) c.expand-expanded.ensures c.number_of-number.ensures c.used_of-used.ensures c.tell.ensures
 
 pub returns-in-None : goal.returns-in-None
 returns-in-None c = expand-none (sym c.edition_of.ensures ∙ c.in-None.is) (c.clear_numbers.ensures ∙ cleared-all (pos 0) _) c.tell-in-None.ensures

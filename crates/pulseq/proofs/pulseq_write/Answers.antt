@@ -5,7 +5,7 @@ use mathlib.Core.Path.{sym, ◌∙◌}
 use Rattle.pulseq.proofs.pulseq_write.Goals as goal
 
 pub returns-in-Some : goal.returns-in-Some
-returns-in-Some c = write-tells (sym c.edition_of.ensures ∙ c.in-Some.is) c.write-written.ensures c.number-number.ensures c.size-size.ensures c.tell.ensures
+returns-in-Some c = write-tells (sym c.edition_of.ensures ∙ c.in-Some.is) c.write-written.ensures c.number_of-number.ensures c.length_of-size.ensures c.tell.ensures
 
 pub returns-in-None : goal.returns-in-None
 returns-in-None c = write-none (sym c.edition_of.ensures ∙ c.in-None.is) (c.clear_bytes.ensures ∙ cleared-all 0 _) c.tell-in-None.ensures

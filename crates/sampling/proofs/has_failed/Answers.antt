@@ -1,20 +1,17 @@
--- `sampling::has_failed` meets its contract. Assumes nothing.
-use mathlib.Core.Path.{sym, ap}
+-- `sampling::has_failed` meets its contract: each way to fail is an error. Assumes nothing.
+use Rattle.std.proofs.Common.{ℕ, ◌≡◌, ◌∙◌, refl, Result, Ok, Err}
+use Rattle.core.specs.Result.{is_err}
+use Rattle.shape.specs.declared.Unexpanded.{Unexpanded}
+use Rattle.shape.specs.declared.Unexpanded.TheVariants.{Field, Shape, Room}
 use Rattle.sampling.specs.Sampling.{failed}
 use Rattle.sampling.proofs.has_failed.Goals as goal
 
-pub returns-in-Samples : goal.returns-in-Samples
+error-failed : (r : Result ℕ Unexpanded) → is_err r ≡ failed r
 unfolding failed
-returns-in-Samples c = sym (ap failed c.in-Samples.is)
+error-failed (Ok n) = refl
+error-failed (Err Field) = refl
+error-failed (Err Shape) = refl
+error-failed (Err Room) = refl
 
-pub returns-in-Field : goal.returns-in-Field
-unfolding failed
-returns-in-Field c = sym (ap failed c.in-Field.is)
-
-pub returns-in-Shape : goal.returns-in-Shape
-unfolding failed
-returns-in-Shape c = sym (ap failed c.in-Shape.is)
-
-pub returns-in-Room : goal.returns-in-Room
-unfolding failed
-returns-in-Room c = sym (ap failed c.in-Room.is)
+pub returns : goal.returns
+returns c = c.is_err.ensures.value ∙ error-failed _
