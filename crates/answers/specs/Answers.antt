@@ -1,9 +1,8 @@
 -- The answers of reading. "It answers a number, a line, rows used and samples used. Lines count from 1; 0 is none. On refusal both counts are 0".
-use Rattle.std.specs.Prelude.{ℕ, Bool, true, false}
+use Rattle.std.specs.Prelude.{ℕ, Bool, true, false, Err, Ok}
 use Rattle.answers.specs.declared.Refusal.{Refusal}
 use Rattle.answers.specs.declared.Refusal.TheVariants.{Big, Line, Version, Section, Field, Missing, Room, Site, Duplicate, Raster, Shape, Reference, Loop, Use, Align, Long, Outlasts}
-use Rattle.answers.specs.declared.Answer.{Answer}
-use Rattle.answers.specs.declared.Answer.TheVariants.{Accepted, Refused}
+use Rattle.answers.specs.Outcome.{Answer}
 
 -- ---- The table of refusals: the number of each name
 abbrev pub refusal_number : Refusal → ℕ
@@ -27,21 +26,21 @@ refusal_number Outlasts = 17
 
 -- ---- "0 ACCEPTED": number, line and counts of each answer
 abbrev pub answer_number : Answer → ℕ
-answer_number (Accepted rows samples) = 0
-answer_number (Refused refusal line) = refusal_number refusal
+answer_number (Ok got) = 0
+answer_number (Err why) = refusal_number why.refusal
 
 abbrev pub answer_line : Answer → ℕ
-answer_line (Accepted rows samples) = 0
-answer_line (Refused refusal line) = line
+answer_line (Ok got) = 0
+answer_line (Err why) = why.line
 
 abbrev pub rows_used : Answer → ℕ
-rows_used (Accepted rows samples) = rows
-rows_used (Refused refusal line) = 0
+rows_used (Ok got) = got.rows
+rows_used (Err why) = 0
 
 abbrev pub samples_used : Answer → ℕ
-samples_used (Accepted rows samples) = samples
-samples_used (Refused refusal line) = 0
+samples_used (Ok got) = got.samples
+samples_used (Err why) = 0
 
 abbrev pub is_accepted : Answer → Bool
-is_accepted (Accepted rows samples) = true
-is_accepted (Refused refusal line) = false
+is_accepted (Ok got) = true
+is_accepted (Err why) = false

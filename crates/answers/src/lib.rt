@@ -2,6 +2,7 @@
 #![tactic(auto)]
 
 ghost use Rattle.std.specs.Prelude.{◌≡◌};
+ghost use Rattle.answers.specs.Outcome.{Refused};
 ghost use Rattle.answers.specs.Answers.{refusal_number, answer_number, answer_line, rows_used, samples_used, is_accepted};
 
 // Why a file is refused, in the paper's order.
@@ -53,61 +54,73 @@ impl Refusal {
     }
 }
 
-// What reading answers: how many rows and samples an accepted file has, or why it is refused and at which line, where 0 is none.
+// How many rows and samples an accepted file has.
 #[derive(Clone, Copy)]
-pub enum Answer {
-    Accepted { rows: usize, samples: usize },
-    Refused(Refusal, usize),
+pub struct Counts {
+    pub rows: usize,
+    pub samples: usize,
 }
 
-impl Answer {
-    // The paper's number of this answer.
-    pub fn number(self) -> u64
-        ensures { result ≡ answer_number self }
-    {
-        match self {
-            Answer::Accepted { .. } => 0,
-            Answer::Refused(refusal, _) => refusal.number(),
-        }
-    }
+// Why a file is refused and at which line, where 0 is none.
+#[derive(Clone, Copy)]
+pub struct RefusedAt {
+    pub refusal: Refusal,
+    pub line: usize,
+}
 
-    // The line of this answer.
-    pub fn line(self) -> usize
-        ensures { result ≡ answer_line self }
-    {
-        match self {
-            Answer::Accepted { .. } => 0,
-            Answer::Refused(_, line) => line,
-        }
-    }
+// What reading answers.
+pub type Answer = Result<Counts, RefusedAt>;
 
-    // How many rows of the lent table are used.
-    pub fn rows(self) -> usize
-        ensures { result ≡ rows_used self }
-    {
-        match self {
-            Answer::Accepted { rows, .. } => rows,
-            Answer::Refused(_, _) => 0,
-        }
-    }
+// A refusal at a line.
+pub fn refused(refusal: Refusal, line: usize) -> Answer
+    ensures { result ≡ Refused refusal line }
+{
+    Err(RefusedAt { refusal, line })
+}
 
-    // How many of the lent samples are used.
-    pub fn samples(self) -> usize
-        ensures { result ≡ samples_used self }
-    {
-        match self {
-            Answer::Accepted { samples, .. } => samples,
-            Answer::Refused(_, _) => 0,
-        }
+// The paper's number of an answer.
+pub fn number(answer: Answer) -> u64
+    ensures { result ≡ answer_number answer }
+{
+    match answer {
+        Ok(_) => 0,
+        Err(refused) => refused.refusal.number(),
     }
+}
 
-    // Is this an acceptance?
-    pub fn is_accepted(self) -> bool
-        ensures { result ≡ is_accepted self }
-    {
-        match self {
-            Answer::Accepted { .. } => true,
-            Answer::Refused(_, _) => false,
-        }
+// The line of an answer.
+pub fn line(answer: Answer) -> usize
+    ensures { result ≡ answer_line answer }
+{
+    match answer {
+        Ok(_) => 0,
+        Err(refused) => refused.line,
     }
+}
+
+// How many rows of the lent table are used.
+pub fn rows(answer: Answer) -> usize
+    ensures { result ≡ rows_used answer }
+{
+    match answer {
+        Ok(counts) => counts.rows,
+        Err(_) => 0,
+    }
+}
+
+// How many of the lent samples are used.
+pub fn samples(answer: Answer) -> usize
+    ensures { result ≡ samples_used answer }
+{
+    match answer {
+        Ok(counts) => counts.samples,
+        Err(_) => 0,
+    }
+}
+
+// Is this an acceptance?
+pub fn is_accepted(answer: Answer) -> bool
+    ensures { result ≡ is_accepted answer }
+{
+    answer.is_ok()
 }

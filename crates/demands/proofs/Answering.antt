@@ -10,8 +10,8 @@ use lib.ListN.{length}
 use Rattle.places.specs.declared.Fault.{Fault}
 use Rattle.places.specs.declared.Fault.TheVariants.{Line as LineFault, Version as VersionFault, Section as SectionFault, Field as FieldFault}
 use Rattle.file.specs.Rows.{Placed, rows_of, scanned_of}
-use Rattle.file.specs.declared.Scanned.{Scanned}
-use Rattle.file.specs.declared.Scanned.TheVariants.{File, Fault as ScannedFault}
+use Rattle.std.proofs.Common.{Err, Ok}
+use Rattle.file.specs.Outcome.{Scanned}
 use Rattle.rasters.specs.Rasters.{rasters_of, lacks}
 use Rattle.sampling.specs.Sampling.{first_failing}
 use Rattle.rules.specs.declared.Rule.{Rule}
@@ -19,8 +19,7 @@ use Rattle.rules.specs.declared.Rule.TheVariants.{Reference as ReferenceRule, Lo
 use Rattle.answers.specs.Answers.{refusal_number, answer_number}
 use Rattle.answers.specs.declared.Refusal.{Refusal}
 use Rattle.answers.specs.declared.Refusal.TheVariants.{Big, Line, Version, Section, Field, Missing, Room, Site, Duplicate, Raster, Shape, Reference, Loop, Use, Align, Long, Outlasts}
-use Rattle.answers.specs.declared.Answer.{Answer}
-use Rattle.answers.specs.declared.Answer.TheVariants.{Accepted, Refused}
+use Rattle.answers.specs.Outcome.{Answer, Accepted, Refused}
 use Rattle.repeats.specs.Repeats.{duplicate_of}
 use Rattle.questions.specs.Asked.{is_big, any_block, is_missing, lacks_room, bad_site, fault_refusal, rule_refusal, in_order}
 use Rattle.reader.specs.Reading.{rows_laid, first_refused, shapes_asked, texts_asked, file_asked, asked, zeros, if_accepted, read_of, rows_out, samples_out, Reading}
@@ -81,14 +80,14 @@ rules-answer first n rs a p (rule ∷ more) = by-test (ltb (first rule) n) _ _ (
 
 file-answers : (file site : List ℕ) (table l : List ℤ) (scan : Scanned) → Answered (file_asked scan file site table l)
 unfolding file_asked texts_asked shapes_asked
-file-answers file site table l (ScannedFault fault line) = at-line (fault_refusal fault) line (fault-line fault)
-file-answers file site table l (File e n s defined) =
-    by-test (is_missing e (any_block (rows_of file)) defined) _ _ (no_line Missing)
-    (by-test (lacks_room n s (length table) (length l)) _ _ (no_line Room)
-    (by-test (bad_site e site) _ _ (no_line Site)
+file-answers file site table l (Err why) = at-line (fault_refusal why.fault) why.line (fault-line why.fault)
+file-answers file site table l (Ok got) =
+    by-test (is_missing got.edition (any_block (rows_of file)) got.defined) _ _ (no_line Missing)
+    (by-test (lacks_room got.rows got.samples (length table) (length l)) _ _ (no_line Room)
+    (by-test (bad_site got.edition site) _ _ (no_line Site)
     (by-test (eqb (duplicate_of file) 0) _ _
-    (by-test (lacks e (rasters_of e file site)) _ _ (no_line Raster)
-    (by-test (ltb (first_failing e file (rows_laid file table) (length l) n) n) _ _ (at-line Shape _ refl) (rules-answer _ n (rows_of file) (Accepted n s) (accepts n s) in_order)))
+    (by-test (lacks got.edition (rasters_of got.edition file site)) _ _ (no_line Raster)
+    (by-test (ltb (first_failing got.edition file (rows_laid file table) (length l) got.rows) got.rows) _ _ (at-line Shape _ refl) (rules-answer _ got.rows (rows_of file) (Accepted got.rows got.samples) (accepts got.rows got.samples) in_order)))
     (at-line Duplicate _ refl))))
 
 read-answers : (file site : List ℕ) (room size : ℕ) → Answered (read_of file site room size)
@@ -97,8 +96,8 @@ read-answers file site room size = by-test (is_big file site) _ _ (no_line Big) 
 
 -- ---- what a refusal leaves
 left-zero : (r : Answer) (table l kept samples : List ℤ) → (answer_number r ≡ 0 → ⊥) → LeftZero table l r (if_accepted r kept (zeros (length table))) (if_accepted r samples (zeros (length l)))
-left-zero (Accepted n s) table l kept samples z = absurd (z refl)
-left-zero (Refused x line) table l kept samples z = record { no_rows = refl; no-samples = refl; rows = refl; samples = refl }
+left-zero (Ok got) table l kept samples z = absurd (z refl)
+left-zero (Err why) table l kept samples z = record { no_rows = refl; no-samples = refl; rows = refl; samples = refl }
 
 -- ---- Demand 1: whatever is read with whatever site into whatever tables, reading answers, and a refusal leaves zeros
 pub first-demand : (file site : List ℕ) (table l : List ℤ) (r : Answer) (table' l' : List ℤ) → Reading file site table l r table' l' → FirstDemand table l r table' l'

@@ -26,8 +26,7 @@ use Rattle.rules.specs.Rules.{is_broken, first_broken}
 use Rattle.rules.specs.declared.Rule.{Rule}
 use Rattle.rules.specs.declared.Rule.TheVariants.{Reference, Loop, Use, Align, Long, Outlasts}
 use Rattle.answers.specs.Answers.{is_accepted}
-use Rattle.answers.specs.declared.Answer.{Answer}
-use Rattle.answers.specs.declared.Answer.TheVariants.{Accepted}
+use Rattle.answers.specs.Outcome.{Answer, Accepted}
 use Rattle.questions.specs.Asked.{lacks_room}
 use Rattle.reader.specs.Reading.{zeros, rows_laid, samples_laid, rows_kept, samples_kept, read_of, rows_out, samples_out, Reading}
 use Rattle.reader.proofs.Judging.{room-enough}

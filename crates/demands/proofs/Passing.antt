@@ -9,8 +9,8 @@ use lib.IntN.{ℤ}
 use lib.ListN.{length}
 use Rattle.shape.specs.declared.Edition.{Edition}
 use Rattle.file.specs.Rows.{Placed, rows_of, scanned_of}
-use Rattle.file.specs.declared.Scanned.{Scanned}
-use Rattle.file.specs.declared.Scanned.TheVariants.{File, Fault as ScannedFault}
+use Rattle.std.proofs.Common.{Err, Ok}
+use Rattle.file.specs.Outcome.{Scanned, File}
 use Rattle.repeats.specs.Repeats.{duplicate_of}
 use Rattle.rasters.specs.Rasters.{rasters_of, lacks}
 use Rattle.sampling.specs.Sampling.{first_failing}
@@ -19,8 +19,7 @@ use Rattle.rules.specs.declared.Rule.{Rule}
 use Rattle.rules.specs.declared.Rule.TheVariants.{Reference, Loop, Use, Align, Long, Outlasts}
 use Rattle.answers.specs.Answers.{is_accepted}
 use Rattle.answers.specs.declared.Refusal.{Refusal}
-use Rattle.answers.specs.declared.Answer.{Answer}
-use Rattle.answers.specs.declared.Answer.TheVariants.{Accepted, Refused}
+use Rattle.answers.specs.Outcome.{Answer, Accepted, Refused}
 use Rattle.questions.specs.Asked.{is_big, any_block, is_missing, lacks_room, bad_site, in_order}
 use Rattle.reader.specs.Reading.{rows_laid, samples_laid, first_refused, shapes_asked, texts_asked, file_asked, asked}
 
@@ -83,19 +82,19 @@ pub record PassedSome (file site : List ℕ) (table l : List ℤ) : Type 0 where
 module _ (file site : List ℕ) (table l : List ℤ) where
   of-scanned : (scan : Scanned) → scanned_of file ≡ scan → is_big file site ≡ false → is_accepted (file_asked scan file site table l) ≡ true → PassedSome file site table l
   unfolding file_asked texts_asked shapes_asked
-  of-scanned (ScannedFault fault line) q b e = absurd (true≢false (sym e))
-  of-scanned (File d n s defined) q b e =
-      let missing = peel (is_missing d (any_block (rows_of file)) defined) _ _ _ e in
-      let room = peel (lacks_room n s (length table) (length l)) _ _ _ missing.1 in
-      let site-fine = peel (bad_site d site) _ _ _ room.1 in
+  of-scanned (Err why) q b e = absurd (true≢false (sym e))
+  of-scanned (Ok got) q b e =
+      let missing = peel (is_missing got.edition (any_block (rows_of file)) got.defined) _ _ _ e in
+      let room = peel (lacks_room got.rows got.samples (length table) (length l)) _ _ _ missing.1 in
+      let site-fine = peel (bad_site got.edition site) _ _ _ room.1 in
       let again = peel-last (eqb (duplicate_of file) 0) _ _ _ site-fine.1 in
-      let raster = peel (lacks d (rasters_of d file site)) _ _ _ again.1 in
-      let shapes = peel (ltb (first_failing d file (rows_laid file table) (length l) n) n) _ _ _ raster.1 in
+      let raster = peel (lacks got.edition (rasters_of got.edition file site)) _ _ _ again.1 in
+      let shapes = peel (ltb (first_failing got.edition file (rows_laid file table) (length l) got.rows) got.rows) _ _ _ raster.1 in
       record {
-        edition = d;
-        n = n;
-        s = s;
-        defined = defined;
+        edition = got.edition;
+        rows = got.rows;
+        samples = got.samples;
+        defined = got.defined;
         passed = record {
           big = b;
           scanned = q;
@@ -104,8 +103,8 @@ module _ (file site : List ℕ) (table l : List ℤ) where
           site-fine = site-fine.0;
           again = eqb-true (duplicate_of file) 0 again.0;
           raster = raster.0;
-          shapes = ltb-false _ n shapes.0;
-          rules = rules-passed _ n (rows_of file) _ shapes.1;
+          shapes = ltb-false _ got.rows shapes.0;
+          rules = rules-passed _ got.rows (rows_of file) _ shapes.1;
         };
       }
 

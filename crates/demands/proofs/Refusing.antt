@@ -1,4 +1,5 @@
 -- Restating a file that was accepted is refused exactly for a fault in the definitions or rasters, a thing on the paper's list, or lack of room. Assumes nothing.
+use Rattle.restater.specs.Outcome.{Restated}
 use Prim.Native.Nat.{ℕ, ◌^◌, ◌≤◌, ◌<◌, min}
 use mathlib.Core.Bool.{Bool, true, false, cond, ◌||◌, true≢false}
 use mathlib.Core.List.{List}
@@ -20,11 +21,10 @@ use Rattle.tables.proofs.Found.{first-is}
 use Rattle.needs.specs.Needs.{site_rasters}
 use Rattle.sayable.specs.Sayable.{is_unknown, has_time, differ, off_micros, names_once, off_raster, unsaid13, unsaid14, unsaid_in, unsaid, any_unsaid, differ_in, unsayable}
 use Rattle.answers.specs.declared.Refusal.TheVariants.{Site, Raster}
-use Rattle.answers.specs.declared.Answer.TheVariants.{Accepted as ReadAccepted, Refused as ReadRefused}
+use Rattle.answers.specs.Outcome.{Accepted as ReadAccepted, Refused as ReadRefused}
 use Rattle.reader.specs.Reading.{read_of, rows_out, samples_out}
 use Rattle.sources.specs.Sources.{own_rasters, is_below, bad_site_for, lacks_rasters, lacking_for, asked_for}
 use Rattle.restater.specs.Restating.{is_unsayable, fits, said, restated_from, restate_of, Restating}
-use Rattle.restater.specs.declared.Restated.{Restated}
 use Rattle.demands.specs.Refusing.{Listed, unknown-extension, time-id, other-raster, half-microseconds, once-named, align-fails, no_steps, text_in, Outcome, site-at-fault, raster-missing, on-the-list, no_room, restated}
 
 -- ---- one of two

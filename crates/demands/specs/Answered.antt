@@ -1,8 +1,7 @@
 -- "Every byte string gets an acceptance or a numbered refusal with its line .. After a refusal the lent tables hold zeros throughout".
-use Rattle.std.specs.Prelude.{◌≤◌, Bool, true, false, List, ◌≡◌, ℤ, length}
+use Rattle.std.specs.Prelude.{◌≤◌, Bool, true, false, List, ◌≡◌, ℤ, length, Err, Ok}
 use Rattle.answers.specs.Answers.{answer_number, rows_used, samples_used}
-use Rattle.answers.specs.declared.Answer.{Answer}
-use Rattle.answers.specs.declared.Answer.TheVariants.{Accepted, Refused}
+use Rattle.answers.specs.Outcome.{Answer}
 use Rattle.answers.specs.declared.Refusal.{Refusal}
 use Rattle.answers.specs.declared.Refusal.TheVariants.{Big, Line, Version, Section, Field, Missing, Room, Site, Duplicate, Raster, Shape, Reference, Loop, Use, Align, Long, Outlasts}
 use Rattle.reader.specs.Reading.{zeros}
@@ -29,8 +28,8 @@ gives_line Outlasts = true
 
 -- what an answer's line may be: an acceptance has none, nor has a refusal that gives none
 abbrev pub LineFits : Answer → Type 0
-LineFits (Accepted n s) = Unit
-LineFits (Refused refusal line) = gives_line refusal ≡ false → line ≡ 0
+LineFits (Ok got) = Unit
+LineFits (Err why) = gives_line why.refusal ≡ false → why.line ≡ 0
 
 -- an answer is an acceptance, 0, or a refusal with a number of the paper's, 1 to 17, and its line
 pub record Answered (r : Answer) : Type 0 where

@@ -21,8 +21,7 @@ use Rattle.blocks.specs.Blocks.{block_length, is_block}
 use Rattle.sampling.specs.Sampling.{is_shape_row, text_at, num_at, place_at, Outside}
 use Rattle.repeats.specs.Once.{Twice}
 use Rattle.answers.specs.Answers.{is_accepted}
-use Rattle.answers.specs.declared.Answer.{Answer}
-use Rattle.answers.specs.declared.Answer.TheVariants.{Accepted}
+use Rattle.answers.specs.Outcome.{Answer, Accepted}
 use Rattle.reader.specs.Reading.{zeros, rows_laid}
 use Rattle.demands.specs.Rules.{Follows}
 

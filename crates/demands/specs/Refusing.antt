@@ -1,5 +1,5 @@
 -- "Restating is refused exactly for a fault in the definitions or rasters, a thing on the paper's list, or lack of output room."
-use Rattle.std.specs.Prelude.{ℕ, ◌^◌, ◌≤◌, ◌<◌, min, Bool, true, false, List, ◌≡◌, ℤ, length}
+use Rattle.std.specs.Prelude.{ℕ, ◌^◌, ◌≤◌, ◌<◌, min, Bool, true, false, List, ◌≡◌, ℤ, length, Err}
 use Rattle.unit.specs.declared.Rasters.{Rasters}
 use Rattle.shape.specs.declared.Edition.{Edition}
 use Rattle.shape.specs.declared.Edition.TheVariants.{V13, V14}
@@ -11,8 +11,8 @@ use Rattle.answers.specs.declared.Refusal.TheVariants.{Site, Raster}
 use Rattle.reader.specs.Reading.{rows_out, samples_out}
 use Rattle.sources.specs.Sources.{own_rasters, lacks_rasters}
 use Rattle.restater.specs.Restating.{text_of}
-use Rattle.restater.specs.declared.Restated.{Restated}
-use Rattle.restater.specs.declared.Restated.TheVariants.{Text, Refused, Unsayable, Output}
+use Rattle.restater.specs.Outcome.{Restated, Text, Refused}
+use Rattle.restater.specs.declared.Unrestated.TheVariants.{Output, Unsayable}
 
 -- ---- "UNSAYABLE exactly when": a thing on the paper's list, of n rows, the rasters q that the file goes by and the site's s
 pub data Listed (target : Edition) (q s : Rasters) (rows : List ℤ) (n : ℕ) : Type 0 where
@@ -40,9 +40,9 @@ text_in target file site room size n = text_of target file site (rows_out file s
 pub data Outcome (target : Edition) (file site : List ℕ) (room size space n s : ℕ) : Restated → Type 0 where
   site-at-fault : site_fault site ≡ true → Outcome target file site room size space n s (Refused Site 0)
   raster-missing : site_fault site ≡ false → lacks_rasters target file site ≡ true → Outcome target file site room size space n s (Refused Raster 0)
-  on-the-list : site_fault site ≡ false → lacks_rasters target file site ≡ false → ListedOf target file site room size n → Outcome target file site room size space n s Unsayable
+  on-the-list : site_fault site ≡ false → lacks_rasters target file site ≡ false → ListedOf target file site room size n → Outcome target file site room size space n s (Err Unsayable)
   no_room : site_fault site ≡ false → lacks_rasters target file site ≡ false → (ListedOf target file site room size n → ⊥)
-      → min space (2 ^ 24) < length (text_in target file site room size n) → Outcome target file site room size space n s Output
+      → min space (2 ^ 24) < length (text_in target file site room size n) → Outcome target file site room size space n s (Err Output)
   restated : site_fault site ≡ false → lacks_rasters target file site ≡ false → (ListedOf target file site room size n → ⊥)
       → length (text_in target file site room size n) ≤ min space (2 ^ 24)
       → Outcome target file site room size space n s (Text n s (length (text_in target file site room size n)))

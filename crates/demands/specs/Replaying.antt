@@ -1,18 +1,17 @@
 -- "A file accepted with one site's definitions, restated to a target edition and read by the target's rules alone with those definitions and enough
 -- table room, is accepted and plays the same: the same blocks in order, durations, events, samples and extension rows."
+use Rattle.restater.specs.Outcome.{Restated}
 use Rattle.std.specs.Prelude.{ℕ, ◌*◌, ◌≤◌, Bool, true, false, cond, List, ◌≡◌, ℤ, length, take}
 use Rattle.unit.specs.declared.Rasters.{Rasters}
 use Rattle.shape.specs.declared.Edition.{Edition}
 use Rattle.shape.specs.declared.Edition.TheVariants.{V13, V14}
 use Rattle.columns.specs.Rows.{row_width}
 use Rattle.file.specs.Rows.{rows_of, scanned_of}
-use Rattle.answers.specs.declared.Answer.{Answer}
-use Rattle.answers.specs.declared.Answer.TheVariants.{Accepted, Refused}
+use Rattle.answers.specs.Outcome.{Answer, Accepted, Refused}
 use Rattle.answers.specs.declared.Refusal.TheVariants.{Version}
 use Rattle.reader.specs.Reading.{read_of, rows_out, samples_out}
 use Rattle.sources.specs.Sources.{edition_in, own_rasters}
 use Rattle.restater.specs.Answers.{is_text, text_length}
-use Rattle.restater.specs.declared.Restated.{Restated}
 use Rattle.demands.specs.Keeping.{sample_sum}
 use Rattle.demands.specs.Playing.{Played, played_of}
 use Rattle.demands.specs.Refusing.{Outcome}

@@ -18,7 +18,7 @@ use Rattle.output.specs.Over.{cleared_from}
 use Rattle.text.proofs.Cases.{true-or-false, and_both}
 use Rattle.shape.specs.Stored.{all_sound, values_of, count_of}
 use Rattle.shape.specs.Samples.{is_plain}
-use Rattle.shape.specs.Answers.{used_of}
+use Rattle.shape.specs.Answers.{Expanded, used_of}
 use Rattle.expanding.specs.Expand.{plain_of, sums_of, fresh_of, trace_of, samples_in, ends_well, expands_to, expansion_of}
 use Rattle.expanding.specs.Alone.{is_count, expanded_of, table_from, samples_after, table_of, Expansion}
 use Rattle.expanding.specs.Inside.{lines_hold, judged, soundly, told, refusal_of, LaidAll}
@@ -99,7 +99,7 @@ module _ (edition : Edition) (num : ℕ) (text : List ℕ) (l m : List ℤ) wher
           }
 
     -- not laid: the count tells why
-    pub laid-refused : r ≡ false → (q : (Result ℕ Unexpanded)) → q ≡ refusal_of (count_of text) → LaidAll edition num text l m q
+    pub laid-refused : r ≡ false → (q : Expanded) → q ≡ refusal_of (count_of text) → LaidAll edition num text l m q
     laid-refused e q f =
         ⊎_elim (λ (s : all_sound (lines_of text) ≡ true). rw (f, refusal-shape text s) (shape s e))
         (λ (s : all_sound (lines_of text) ≡ false). rw (f, refusal-field text s) (field (rw s (and-false (is_count num)))))
@@ -136,7 +136,7 @@ module _ (edition : Edition) (num : ℕ) (text : List ℕ) (l m : List ℤ) wher
           }
 
 -- ---- After it is cleared
-module _ (edition : Edition) (num : ℕ) (text : List ℕ) (l m l' : List ℤ) (r : (Result ℕ Unexpanded)) (k : length m ≡ length l) (a : LaidAll edition num text l m r) where
+module _ (edition : Edition) (num : ℕ) (text : List ℕ) (l m l' : List ℤ) (r : Expanded) (k : length m ≡ length l) (a : LaidAll edition num text l m r) where
   pub cleared-samples : (n : ℕ) → r ≡ Ok n → l' ≡ cleared_from (pos 0) n m → Expansion edition num text l (Ok n) l'
   unfolding cleared_from table_of samples_after table_from
   cleared-samples n e c =
@@ -148,7 +148,7 @@ module _ (edition : Edition) (num : ℕ) (text : List ℕ) (l m l' : List ℤ) (
   unfolding cleared_from
   cleared-all c = let e : length l - 0 ≡ length l = omega arith in c ∙ rw (k, e)
 
-  pub cleared-refused : (q : (Result ℕ Unexpanded)) → ((zs : List ℤ) → replicate (length l) (pos 0) ≡ samples_after q zs (length l)) → r ≡ q → l' ≡ cleared_from (pos 0) 0 m
+  pub cleared-refused : (q : Expanded) → ((zs : List ℤ) → replicate (length l) (pos 0) ≡ samples_after q zs (length l)) → r ≡ q → l' ≡ cleared_from (pos 0) 0 m
       → Expansion edition num text l q l'
   unfolding table_of
   cleared-refused q z e c =

@@ -1,7 +1,7 @@
 -- What the inner functions answer. Nothing here needs to be believed: laws lead from these to the definitions of the other files.
-use Rattle.shape.specs.declared.Unexpanded.{Unexpanded}
+use Rattle.shape.specs.Answers.{Expanded}
 use Rattle.shape.specs.declared.Unexpanded.TheVariants.{Shape, Field}
-use Rattle.std.specs.Prelude.{ℕ, ◌+◌, ◌*◌, ◌≤◌, ◌<◌, Bool, true, false, cond, List, [], ◌∷◌, ◌≡◌, eqb, ℤ, length, take, drop, set, None, Option, Some, Ok, Err, Result}
+use Rattle.std.specs.Prelude.{ℕ, ◌+◌, ◌*◌, ◌≤◌, ◌<◌, Bool, true, false, cond, List, [], ◌∷◌, ◌≡◌, eqb, ℤ, length, take, drop, set, None, Option, Some, Ok, Err}
 use Rattle.numeral.specs.declared.Decimal.{Decimal}
 use Rattle.text.specs.Lines.{lines_of}
 use Rattle.text.specs.Marks.{mark_of}
@@ -120,7 +120,7 @@ pub record PairWent (text : List ℕ) (num : ℕ) (l m : List ℤ) (from at : �
   pub ready : Ready num r
 
 -- ---- Why lines are refused that were not laid, by their count
-unfoldable pub refusal_of : (Option ℕ) → (Result ℕ Unexpanded)
+unfoldable pub refusal_of : (Option ℕ) → Expanded
 refusal_of (Some n) = (Err Shape)
 refusal_of None = (Err Field)
 
@@ -131,6 +131,6 @@ pub record Laid (n num : ℕ) (m : List ℤ) (zs : List ℤ) : Type 0 where
   pub front : take num m ≡ zs
 
 -- ---- All of it, before what was lent is cleared: the answer, and that the samples stand in the table where there are any
-pub record LaidAll (edition : Edition) (num : ℕ) (text : List ℕ) (l m : List ℤ) (r : (Result ℕ Unexpanded)) : Type 0 where
+pub record LaidAll (edition : Edition) (num : ℕ) (text : List ℕ) (l m : List ℤ) (r : Expanded) : Type 0 where
   pub answer : r ≡ expanded_of edition num text (length l)
   pub laid : (n : ℕ) → r ≡ Ok n → Laid n num m (samples_in (expansion_of edition num (values_of text)))

@@ -1,4 +1,5 @@
 -- The loop over the lines of a file that lays its rows over a table. Assumes nothing.
+use Rattle.file.specs.Outcome.{Scanned}
 use Prim.Native.Nat.{ℕ, ◌+◌, ◌-◌, ◌≤◌}
 use mathlib.Core.Bool.{true, false}
 use mathlib.Core.List.{List, [], ◌++◌}
@@ -18,7 +19,6 @@ use Rattle.places.specs.declared.Stepped.{Stepped}
 use Rattle.file.specs.Whole.{ended, judged, verdict_from, verdict_of, is_fault}
 use Rattle.file.specs.Rows.{Placed, row_at, rows_from, rows_of, laid_rows, answer_of, scanned_of, Scanning}
 use Rattle.file.specs.Inside.{Laid}
-use Rattle.file.specs.declared.Scanned.{Scanned}
 use Rattle.file.proofs.Walking.{Within, within-start, within-turn, verdict-turn, verdict-stop, verdict-end, gathered-turn, gathered-stop, gathered-end}
 use Rattle.file.proofs.Laying.{length-rows, laid_more, length_more, count-is, count_most}
 

@@ -7,8 +7,7 @@ use Rattle.places.specs.Places.{fresh}
 use Rattle.places.specs.declared.State.{State}
 use Rattle.places.specs.declared.Stepped.{Stepped}
 use Rattle.file.specs.Whole.{Verdict, ended, stopped, verdict_of, is_row, gathered}
-use Rattle.file.specs.declared.Scanned.{Scanned}
-use Rattle.file.specs.declared.Scanned.TheVariants.{File, Fault}
+use Rattle.file.specs.Outcome.{Scanned, File, Fault}
 
 -- ---- A row with its line
 pub record Placed : Type 0 where

@@ -10,18 +10,24 @@ ghost use Rattle.file.specs.Inside.{Laid, is_met};
 use places::{Fault, Found, State, Stepped};
 use shape::Edition;
 
-// What reading all lines answers: the edition, how many rows and samples there are, and whether `[DEFINITIONS]` stands in the file; or the first
-// fault and its line, 0 at the end of the file.
+// What a whole file gives: the edition, how many rows and samples there are, and whether `[DEFINITIONS]` stands in the file.
 #[derive(Clone, Copy)]
-pub enum Scanned {
-    File {
-        edition: Edition,
-        rows: usize,
-        samples: u64,
-        defined: bool,
-    },
-    Fault(Fault, usize),
+pub struct Summary {
+    pub edition: Edition,
+    pub rows: usize,
+    pub samples: u64,
+    pub defined: bool,
 }
+
+// The first fault of a file and its line, 0 at the end of the file.
+#[derive(Clone, Copy)]
+pub struct FaultAt {
+    pub fault: Fault,
+    pub line: usize,
+}
+
+// What reading all lines answers.
+pub type Scanned = Result<Summary, FaultAt>;
 
 // Where a walk over the lines of a file stands: the place, how many lines were passed, and the state there.
 #[derive(Clone, Copy)]
@@ -105,15 +111,12 @@ pub fn row_count(found: Found) -> usize
 fn whole(st: State, rows: usize) -> Scanned
     ensures { result ≡ answer_of (ended st) rows }
 {
-    let edition = st.edition;
-    let samples = st.samples;
-    let defined = st.seen[2];
-    Scanned::File {
-        edition,
+    Ok(Summary {
+        edition: st.edition,
         rows,
-        samples,
-        defined,
-    }
+        samples: st.samples,
+        defined: st.seen[2],
+    })
 }
 
 // The answer of what was found at line n: a fault, or else where the file ends.
@@ -121,10 +124,8 @@ fn answer(found: Found, n: usize, st: State, rows: usize) -> Scanned
     ensures { result ≡ answer_of (judged found n (ended st)) rows }
 {
     match found {
-        Found::Nothing => whole(st, rows),
-        Found::Row => whole(st, rows),
-        Found::Definition => whole(st, rows),
-        Found::Fault(fault) => Scanned::Fault(fault, n),
+        Found::Fault(fault) => Err(FaultAt { fault, line: n }),
+        Found::Nothing | Found::Row | Found::Definition => whole(st, rows),
     }
 }
 

@@ -8,7 +8,7 @@ ghost use Rattle.file.specs.Marks.{met_walk};
 ghost use Rattle.passing.specs.Sound.{sound_of};
 ghost use Rattle.tables.specs.Tables.{NoneAgain};
 
-use file::{Scanned, Walk};
+use file::{Summary, Walk};
 use places::{Found, Stepped};
 use rules::Rule;
 use shape::Edition;
@@ -342,12 +342,14 @@ fn judge_file<'a>(file: &'a [u8], site: &'a [u8]) {
     let marked = file::scan_marked(file, &mut table);
     let scanned = marked.scanned;
     match scanned {
-        Scanned::File {
-            edition,
-            rows,
-            samples,
-            defined,
-        } => {
+        Ok(
+            Summary {
+                edition,
+                rows,
+                samples,
+                defined,
+            },
+        ) => {
             if is_missing(edition, defined, file) {
                 show_refusal(6, 0);
                 return;
@@ -369,7 +371,7 @@ fn judge_file<'a>(file: &'a [u8], site: &'a [u8]) {
                 samples as usize,
             );
         }
-        Scanned::Fault(fault, line) => show_refusal(fault.number(), line),
+        Err(first) => show_refusal(first.fault.number(), first.line),
     }
 }
 

@@ -8,8 +8,8 @@ use Rattle.shape.specs.declared.Edition.{Edition}
 use Rattle.places.specs.declared.State.{State}
 use Rattle.file.specs.Whole.{Verdict, ended, stopped, verdict_of}
 use Rattle.file.specs.Rows.{rows_of, answer_of, scanned_of}
-use Rattle.file.specs.declared.Scanned.{Scanned}
-use Rattle.file.specs.declared.Scanned.TheVariants.{File, Fault as ScannedFault}
+use Rattle.std.proofs.Common.{Err, Ok}
+use Rattle.file.specs.Outcome.{Scanned, File}
 
 -- ---- a file that comes to its end
 pub verdict-scanned : (file : List ℕ) (end : State) → verdict_of file ≡ ended end
@@ -27,24 +27,24 @@ pub record Ends (file : List ℕ) (e : Edition) (n s : ℕ) (defined : Bool) : T
   pub definitions : defined ≡ get_or end.seen 2 false
 
 abbrev edition_of : Scanned → Edition → Edition
-edition_of (File e n s d) other = e
-edition_of (ScannedFault fault line) other = other
+edition_of (Ok got) other = got.edition
+edition_of (Err why) other = other
 
 abbrev rows_in : Scanned → ℕ
-rows_in (File e n s d) = n
-rows_in (ScannedFault fault line) = 0
+rows_in (Ok got) = got.rows
+rows_in (Err why) = 0
 
 abbrev samples_in : Scanned → ℕ
-samples_in (File e n s d) = s
-samples_in (ScannedFault fault line) = 0
+samples_in (Ok got) = got.samples
+samples_in (Err why) = 0
 
 abbrev defined_in : Scanned → Bool
-defined_in (File e n s d) = d
-defined_in (ScannedFault fault line) = false
+defined_in (Ok got) = got.defined
+defined_in (Err why) = false
 
 abbrev is_file : Scanned → Bool
-is_file (File e n s d) = true
-is_file (ScannedFault fault line) = false
+is_file (Ok got) = true
+is_file (Err why) = false
 
 pub scanned-ends : (file : List ℕ) (e : Edition) (n s : ℕ) (defined : Bool) → scanned_of file ≡ File e n s defined → Ends file e n s defined
 unfolding scanned_of answer_of

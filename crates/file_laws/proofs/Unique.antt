@@ -1,11 +1,11 @@
 -- The outcome of reading all lines of a file is unique. Assumes nothing.
+use Rattle.file.specs.Outcome.{Scanned}
 use Prim.Native.Nat.{ℕ}
 use mathlib.Core.List.{List}
 use mathlib.Core.Path.{◌≡◌, sym, ◌∙◌}
 use lib.IntN.{ℤ}
 use Rattle.file.specs.Rows.{Scanning}
 use Rattle.file.specs.Marks.{Marking}
-use Rattle.file.specs.declared.Scanned.{Scanned}
 use Rattle.file.specs.declared.Marked.{Marked}
 
 -- two outcomes that keep the contract are the same

@@ -6,7 +6,7 @@
 ghost use Rattle.std.specs.Prelude.{◌≤◌, true, ◌≡◌, length};
 ghost use Rattle.passing.specs.Sound.{sound_of};
 
-use file::Scanned;
+use file::Summary;
 use places::Fault;
 use shape::Edition;
 
@@ -146,16 +146,18 @@ fn show_file(file: &[u8]) {
     let mut table = [0i64; 720];
     let scanned = file::scan(file, &mut table);
     match scanned {
-        Scanned::File {
-            edition,
-            rows,
-            samples,
-            defined,
-        } => {
+        Ok(
+            Summary {
+                edition,
+                rows,
+                samples,
+                defined,
+            },
+        ) => {
             show_whole(edition, rows, samples, defined);
             show_rows(file, &table, rows);
         }
-        Scanned::Fault(fault, line) => show_fault(fault, line),
+        Err(first) => show_fault(first.fault, first.line),
     }
 }
 

@@ -7,8 +7,8 @@ use lib.Dec.{eqb}
 use Rattle.shape.specs.declared.Edition.{Edition}
 use Rattle.places.specs.declared.Fault.{Fault}
 use Rattle.file.specs.Rows.{scanned_of}
-use Rattle.file.specs.declared.Scanned.{Scanned}
-use Rattle.file.specs.declared.Scanned.TheVariants.{File, Fault as ScannedFault}
+use Rattle.std.proofs.Common.{Err, Ok}
+use Rattle.file.specs.Outcome.{Scanned, File, Fault as ScannedFault}
 use Rattle.passing.specs.Sound.{sound_of}
 use Rattle.passing.proofs.Sound.{sound-scanned}
 use Rattle.definitions.specs.Definitions.{site_fault}
@@ -49,8 +49,8 @@ module _ (file site : List ℕ) (b : Bool) (p : b ≡ is_big file site) where
 -- ---- where there is no fault, no line is at fault
 pub no_line : (file : List ℕ) (s : Scanned) → s ≡ scanned_of file → is_at_fault s ≡ false → sound_of file ≡ true
 unfolding is_at_fault
-no_line file (File e n m defined) p q = sound-scanned file p
-no_line file (ScannedFault fault line) p q = absurd (true≢false q)
+no_line file (Ok got) p q = sound-scanned file p
+no_line file (Err why) p q = absurd (true≢false q)
 
 pub sound-file : (file site : List ℕ) (b : Bool) → b ≡ is_faulty file site → b ≡ false → sound_of file ≡ true
 unfolding is_faulty

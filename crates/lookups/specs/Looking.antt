@@ -1,8 +1,7 @@
 -- What is looked up in a file: a definition, and the stored lines of a shape. "empty if neither or on a fault of 1 to 5, 8 or 9".
-use Rattle.std.specs.Prelude.{ℕ, Bool, true, false, cond, not, ◌||◌, List, [], eqb, ℤ}
+use Rattle.std.specs.Prelude.{ℕ, Bool, true, false, cond, not, ◌||◌, List, [], eqb, ℤ, Err, Ok}
 use Rattle.file.specs.Rows.{scanned_of}
-use Rattle.file.specs.declared.Scanned.{Scanned}
-use Rattle.file.specs.declared.Scanned.TheVariants.{File, Fault}
+use Rattle.file.specs.Outcome.{Scanned}
 use Rattle.definitions.specs.Definitions.{site_fault, definition_of}
 use Rattle.stored.specs.Shapes.{stored_of}
 use Rattle.repeats.specs.Repeats.{duplicate_of}
@@ -10,8 +9,8 @@ use Rattle.questions.specs.Asked.{is_big}
 
 -- ---- 2 to 5
 unfoldable pub is_at_fault : Scanned → Bool
-is_at_fault (File e n s defined) = false
-is_at_fault (Fault fault line) = true
+is_at_fault (Ok got) = false
+is_at_fault (Err why) = true
 
 -- ---- "a fault of 1 to 5, 8 or 9"; a site's text is asked in both editions
 unfoldable pub is_faulty : List ℕ → List ℕ → Bool

@@ -8,7 +8,6 @@ ghost use Rattle.lookups.specs.Looking.{is_at_fault, is_faulty, looked_up, store
 ghost use Rattle.lookups.specs.Spots.{source_number, spot_number, spot_start, spot_length, spot_in, either_spot, definition_spot, stored_spot};
 
 use fields::Part;
-use file::Scanned;
 
 // Which of the two lent texts.
 #[derive(Clone, Copy)]
@@ -77,10 +76,7 @@ fn has_fault(file: &[u8]) -> bool
     ensures { result ≡ is_at_fault (scanned_of file.now) }
 {
     let mut none = [0i64; 1];
-    match file::scan(file, &mut none) {
-        Scanned::File { .. } => false,
-        Scanned::Fault(_, _) => true,
-    }
+    file::scan(file, &mut none).is_err()
 }
 
 // Is there a fault for which nothing is looked up: 1 to 5, 8 or 9?

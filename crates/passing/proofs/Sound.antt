@@ -16,8 +16,8 @@ use Rattle.places.specs.declared.State.{State}
 use Rattle.grammar.specs.Steps.{step_of}
 use Rattle.file.specs.Whole.{Verdict, ended, stopped, is_fault, judged, verdict_from, verdict_of}
 use Rattle.file.specs.Rows.{answer_of, rows_of, scanned_of}
-use Rattle.file.specs.declared.Scanned.{Scanned}
-use Rattle.file.specs.declared.Scanned.TheVariants.{File, Fault as ScannedFault}
+use Rattle.std.proofs.Common.{Err, Ok}
+use Rattle.file.specs.Outcome.{Scanned, File}
 use Rattle.passing.specs.Sound.{sound_from, sound_of}
 use Rattle.passing.specs.Passing.{passes_of}
 use Rattle.passing.proofs.Over.{Over, passed_over}
@@ -57,8 +57,8 @@ is_ended (ended st) = true
 is_ended (stopped fault n) = false
 
 abbrev is_file : Scanned → Bool
-is_file (File edition rows samples defined) = true
-is_file (ScannedFault fault n) = false
+is_file (Ok got) = true
+is_file (Err why) = false
 
 ended-sound : (st : State) (n : ℕ) (ls : List (List ℕ)) → is_ended (verdict_from st n ls) ≡ true → sound_from st n ls ≡ true
 unfolding verdict_from sound_from judged is_fault

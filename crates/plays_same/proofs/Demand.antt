@@ -12,15 +12,13 @@ use Rattle.file.specs.Rows.{rows_of, scanned_of}
 use Rattle.needs.specs.Needs.{site_rasters}
 use Rattle.sayable.specs.Sayable.{unsayable}
 use Rattle.answers.specs.Answers.{rows_used, is_accepted}
-use Rattle.answers.specs.declared.Answer.{Answer}
-use Rattle.answers.specs.declared.Answer.TheVariants.{Accepted, Refused}
+use Rattle.answers.specs.Outcome.{Answer, Accepted, Refused}
 use Rattle.answers.specs.declared.Refusal.TheVariants.{Version}
 use Rattle.reader.specs.Reading.{read_of, rows_out, samples_out, Reading}
 use Rattle.sources.specs.Sources.{edition_in, own_rasters}
 use Rattle.restater.specs.Answers.{is_text, text_length}
 use Rattle.restater.specs.Restating.{restate_of, blank_bytes, rows_after, samples_after, output_after, Restating}
-use Rattle.restater.specs.declared.Restated.{Restated}
-use Rattle.restater.specs.declared.Restated.TheVariants.{Text}
+use Rattle.restater.specs.Outcome.{Restated, Text}
 use Rattle.demands.specs.Keeping.{SoundSite, Keeps}
 use Rattle.demands.specs.Refusing.{ListedOf, text_in, Outcome, site-at-fault, raster-missing, on-the-list, no_room, restated}
 use Rattle.demands.specs.Replaying.{is_edition, read_by, EnoughRoom, played_in, PlaysSame, ThirdDemand, PlaysAgain}

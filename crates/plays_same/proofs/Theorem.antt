@@ -18,7 +18,7 @@ use Rattle.file.specs.Rows.{rows_of, scanned_of}
 use Rattle.file_laws.proofs.Ending.{verdict-scanned}
 use Rattle.rasters.specs.Rasters.{rasters_of}
 use Rattle.blocks.specs.Blocks.{block_length}
-use Rattle.answers.specs.declared.Answer.TheVariants.{Accepted}
+use Rattle.answers.specs.Outcome.{Accepted}
 use Rattle.reader.specs.Reading.{zeros, rows_laid, rows_out, samples_out}
 use Rattle.sources.specs.Sources.{edition_in, own_rasters}
 use Rattle.demands.specs.Keeping.{sample_sum, SamplesHeld, Keeps}

@@ -1,7 +1,7 @@
 -- Laws of what is told: the loop that lays numbers over an answer, the editions, and what each function tells. Assumes nothing.
-use Rattle.shape_text.specs.declared.Unwritten.{Unwritten}
-use Rattle.shape.specs.declared.Unexpanded.{Unexpanded}
-use Rattle.std.proofs.Common.{None, Some, Result}
+use Rattle.restater.specs.Outcome.{Restated}
+use Rattle.answers.specs.Outcome.{Answer}
+use Rattle.std.proofs.Common.{None, Some}
 use Prim.Native.Nat.{ℕ, zero, suc, ◌+◌, ◌-◌, ◌≤◌, ◌<◌}
 use mathlib.Core.List.{List, [], ◌∷◌, ◌++◌, append_assoc, append-nil}
 use mathlib.Core.Path.{◌≡◌, refl, sym, ap, ◌∙◌}
@@ -13,15 +13,13 @@ use lib.ListN.{length, take, drop, get_or, set, replicate, length-set, drop_of_l
 use lib.Seq.{take_all, take-suc-set, drop-cons}
 use Rattle.shape.specs.declared.Edition.{Edition}
 use Rattle.shape.specs.declared.Edition.TheVariants.{V13, V14}
-use Rattle.shape.specs.Answers.{number_of, used_of}
+use Rattle.shape.specs.Answers.{Expanded, number_of, used_of}
 use Rattle.expanding.specs.Alone.{Expansion}
-use Rattle.shape_text.specs.Written.{length_of, Writing, number_of as written_number}
+use Rattle.shape_text.specs.Written.{Written, length_of, Writing, number_of as written_number}
 use Rattle.answers.specs.Answers.{answer_number, answer_line, rows_used, samples_used}
-use Rattle.answers.specs.declared.Answer.{Answer}
 use Rattle.reader.specs.Reading.{Reading, zeros}
 use Rattle.restater.specs.Answers.{restated_number, restated_line, rows_read, samples_read, text_length}
 use Rattle.restater.specs.Restating.{Restating}
-use Rattle.restater.specs.declared.Restated.{Restated}
 use Rattle.lookups.specs.Spots.{spot_number, spot_start, spot_length, definition_spot, stored_spot}
 use Rattle.lookups.specs.declared.Spot.{Spot}
 use Rattle.pulseq.specs.Exports.{told, read_numbers, ReadTold, edition_of, expand_numbers, expand_samples, expand_answer, ExpandTold, write_numbers, write_output, write_answer, WriteTold, restate_numbers, restate_rows, restate_samples, restate_output, restate_answer, RestateTold, spot_numbers, DefinitionTold, StoredTold}
@@ -108,12 +106,12 @@ read-tells {r = r} d a b c e {answer = answer} w = record {
 
 -- ---- what expanding tells, in an edition and in none
 module _ {text : List ℕ} {num edition : ℕ} {l : List ℤ} {l' : List ℤ} {answer answer' : List ℕ} where
-  pub expand-tells : {e : Edition} → edition_of edition ≡ Some e → {r : (Result ℕ Unexpanded)} → Expansion e num text l r l' → {n used : ℕ} → n ≡ number_of r → used ≡ used_of r
+  pub expand-tells : {e : Edition} → edition_of edition ≡ Some e → {r : Expanded} → Expansion e num text l r l' → {n used : ℕ} → n ≡ number_of r → used ≡ used_of r
       → answer' ≡ told (length answer) (n ∷ used ∷ []) → ExpandTold text num edition l answer l' answer'
   unfolding expand_samples expand_answer
   expand-tells k d a b w = record {
     samples = rw k d.samples;
-    numbers = rw k (rw (a, b) at w ∙ ap (λ (x : (Result ℕ Unexpanded)). told (length answer) (expand_numbers x)) d.answer);
+    numbers = rw k (rw (a, b) at w ∙ ap (λ (x : Expanded). told (length answer) (expand_numbers x)) d.answer);
   }
 
   pub expand-none : edition_of edition ≡ None → l' ≡ zeros (length l) → answer' ≡ told (length answer) (3 ∷ 0 ∷ []) → ExpandTold text num edition l answer l' answer'
@@ -122,12 +120,12 @@ module _ {text : List ℕ} {num edition : ℕ} {l : List ℤ} {l' : List ℤ} {a
 
 -- ---- what writing tells, in an edition and in none
 module _ {zs : List ℤ} {edition : ℕ} {l l' answer answer' : List ℕ} where
-  pub write-tells : {e : Edition} → edition_of edition ≡ Some e → {r : (Result ℕ Unwritten)} → Writing e zs l r l' → {n size : ℕ} → n ≡ written_number r → size ≡ length_of r
+  pub write-tells : {e : Edition} → edition_of edition ≡ Some e → {r : Written} → Writing e zs l r l' → {n size : ℕ} → n ≡ written_number r → size ≡ length_of r
       → answer' ≡ told (length answer) (n ∷ size ∷ []) → WriteTold zs edition l answer l' answer'
   unfolding write_output write_answer
   write-tells k d a b w = record {
     output = rw k d.output;
-    numbers = rw k (rw (a, b) at w ∙ ap (λ (x : (Result ℕ Unwritten)). told (length answer) (write_numbers x)) d.answer);
+    numbers = rw k (rw (a, b) at w ∙ ap (λ (x : Written). told (length answer) (write_numbers x)) d.answer);
   }
 
   pub write-none : edition_of edition ≡ None → l' ≡ replicate (length l) 0 → answer' ≡ told (length answer) (3 ∷ 0 ∷ []) → WriteTold zs edition l answer l' answer'

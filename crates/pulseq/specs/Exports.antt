@@ -1,18 +1,16 @@
 -- What each function of the library writes: the lent tables or output, and the numbers of its answer.
-use Rattle.shape_text.specs.declared.Unwritten.{Unwritten}
-use Rattle.shape.specs.declared.Unexpanded.{Unexpanded}
+use Rattle.restater.specs.Outcome.{Restated}
+use Rattle.answers.specs.Outcome.{Answer}
 use Rattle.shape.specs.declared.Edition.{Edition}
-use Rattle.std.specs.Prelude.{ℕ, ◌-◌, cond, List, [], ◌∷◌, ◌++◌, ◌≡◌, eqb, ℤ, length, take, replicate, None, Option, Some, Result}
+use Rattle.std.specs.Prelude.{ℕ, ◌-◌, cond, List, [], ◌∷◌, ◌++◌, ◌≡◌, eqb, ℤ, length, take, replicate, None, Option, Some}
 use Rattle.expanding.specs.Alone.{expanded_of, table_of}
-use Rattle.shape.specs.Answers.{number_of, used_of}
+use Rattle.shape.specs.Answers.{Expanded, number_of, used_of}
 use Rattle.shape.specs.declared.Edition.TheVariants.{V13, V14}
-use Rattle.shape_text.specs.Written.{written_of, output_of, length_of, number_of as written_number}
+use Rattle.shape_text.specs.Written.{Written, written_of, output_of, length_of, number_of as written_number}
 use Rattle.answers.specs.Answers.{answer_number, answer_line, rows_used, samples_used}
-use Rattle.answers.specs.declared.Answer.{Answer}
 use Rattle.reader.specs.Reading.{zeros, read_of, rows_out, samples_out}
 use Rattle.restater.specs.Answers.{restated_number, restated_line, rows_read, samples_read, text_length}
 use Rattle.restater.specs.Restating.{restate_of, rows_after, samples_after, output_after}
-use Rattle.restater.specs.declared.Restated.{Restated}
 use Rattle.lookups.specs.Spots.{spot_number, spot_start, spot_length, definition_spot, stored_spot}
 use Rattle.lookups.specs.declared.Spot.{Spot}
 
@@ -37,7 +35,7 @@ abbrev pub version_numbers : List ℕ
 version_numbers = 3 ∷ 0 ∷ []
 
 -- ---- Expanding alone: the number and how many samples
-abbrev pub expand_numbers : (Result ℕ Unexpanded) → List ℕ
+abbrev pub expand_numbers : Expanded → List ℕ
 expand_numbers r = number_of r ∷ used_of r ∷ []
 
 unfoldable pub expand_samples : (Option Edition) → ℕ → List ℕ → ℕ → List ℤ
@@ -53,7 +51,7 @@ pub record ExpandTold (text : List ℕ) (num edition : ℕ) (l : List ℤ) (answ
   pub numbers : answer' ≡ told (length answer) (expand_answer (edition_of edition) num text (length l))
 
 -- ---- Writing: the number and the length of the text
-abbrev pub write_numbers : (Result ℕ Unwritten) → List ℕ
+abbrev pub write_numbers : Written → List ℕ
 write_numbers r = written_number r ∷ length_of r ∷ []
 
 unfoldable pub write_output : (Option Edition) → List ℤ → ℕ → List ℕ

@@ -53,10 +53,10 @@ pub fn pulseq_read<'a>(
     ensures { ReadTold file.now site.now rows.old samples.old answer.old rows.new samples.new answer.new }
 {
     let read = reader::read(file, site, rows, samples);
-    let number = read.number();
-    let line = read.line() as u64;
-    let used = read.rows() as u64;
-    let count = read.samples() as u64;
+    let number = answers::number(read);
+    let line = answers::line(read) as u64;
+    let used = answers::rows(read) as u64;
+    let count = answers::samples(read) as u64;
     let numbers = [number, line, used, count];
     tell(answer, &numbers);
 }
@@ -126,11 +126,11 @@ pub fn pulseq_restate<'a>(
     match edition_of(target) {
         Some(known) => {
             let restated = restater::restate(file, site, known, rows, samples, out);
-            let number = restated.number();
-            let line = restated.line() as u64;
-            let used = restated.rows() as u64;
-            let count = restated.samples() as u64;
-            let size = restated.length() as u64;
+            let number = restater::number(restated);
+            let line = restater::line(restated) as u64;
+            let used = restater::rows(restated) as u64;
+            let count = restater::samples(restated) as u64;
+            let size = restater::length(restated) as u64;
             let numbers = [number, line, used, count, size];
             tell(answer, &numbers);
         }

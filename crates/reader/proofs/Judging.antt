@@ -21,7 +21,7 @@ use Rattle.shape.specs.declared.Edition.{Edition}
 use Rattle.places.specs.declared.Fault.{Fault}
 use Rattle.columns.specs.Rows.{row_width}
 use Rattle.file.specs.Rows.{Placed, rows_of, line_of, scanned_of}
-use Rattle.file.specs.declared.Scanned.TheVariants.{File, Fault as ScannedFault}
+use Rattle.file.specs.Outcome.{File, Fault as ScannedFault}
 use Rattle.file_laws.proofs.Ending.{scanned-ends}
 use Rattle.text.proofs.Lines.{or_left}
 use Rattle.repeats.specs.Repeats.{duplicate_of}
@@ -35,8 +35,8 @@ use Rattle.rules.specs.declared.Rule.TheVariants.{Outlasts}
 use Rattle.answers.specs.Answers.{is_accepted}
 use Rattle.answers.specs.declared.Refusal.{Refusal}
 use Rattle.answers.specs.declared.Refusal.TheVariants.{Big, Missing, Room, Site, Duplicate, Raster, Shape}
-use Rattle.answers.specs.declared.Answer.{Answer}
-use Rattle.answers.specs.declared.Answer.TheVariants.{Accepted, Refused}
+use Rattle.std.proofs.Common.{Err, Ok}
+use Rattle.answers.specs.Outcome.{Answer, Accepted, Refused}
 use Rattle.questions.specs.Asked.{is_big, fault_refusal, any_block, is_missing, lacks_room, bad_site, in_order, rule_at, rule_refusal}
 use Rattle.reader.specs.Reading.{rows_laid, samples_laid, first_refused, rules_asked, shapes_asked, texts_asked, file_asked, asked, rows_kept, samples_kept, zeros, if_accepted, read_of, rows_out, samples_out, Reading}
 use Rattle.reader.specs.Inside.{Judged, RowsJudged, TextsJudged, FileJudged, AllJudged}
@@ -183,12 +183,12 @@ module _ (file site : List ℕ) (table l : List ℤ) where
 
 -- ---- what the tables hold in the end
 if-accepted : (r : Answer) (kept none : List ℤ) → is_accepted r ≡ true → if_accepted r kept none ≡ kept
-if-accepted (Accepted n s) kept none e = refl
-if-accepted (Refused x line) kept none e = absurd (true≢false (sym e))
+if-accepted (Ok got) kept none e = refl
+if-accepted (Err why) kept none e = absurd (true≢false (sym e))
 
 if-refused : (r : Answer) (kept none : List ℤ) → is_accepted r ≡ false → if_accepted r kept none ≡ none
-if-refused (Accepted n s) kept none e = absurd (true≢false e)
-if-refused (Refused x line) kept none e = refl
+if-refused (Ok got) kept none e = absurd (true≢false e)
+if-refused (Err why) kept none e = refl
 
 module _ (file site : List ℕ) (table l table₁ l₁ table' l' : List ℤ) (p : table₁ ≡ zeros (length table)) (q : l₁ ≡ zeros (length l)) (r : Answer) (j : AllJudged file site table₁ l₁ r table' l') where
   read_answer : r ≡ read_of file site (length table) (length l)

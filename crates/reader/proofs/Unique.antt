@@ -1,9 +1,9 @@
 -- The outcome of reading is unique. Assumes nothing.
+use Rattle.answers.specs.Outcome.{Answer}
 use mathlib.Core.List.{List}
 use Prim.Native.Nat.{ℕ}
 use mathlib.Core.Path.{◌≡◌, sym, ◌∙◌}
 use lib.IntN.{ℤ}
-use Rattle.answers.specs.declared.Answer.{Answer}
 use Rattle.reader.specs.Reading.{Reading}
 
 -- ---- two readings of the same file with the same site into tables of the same lengths answer the same and leave the same

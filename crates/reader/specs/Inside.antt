@@ -7,8 +7,7 @@ use Rattle.duplicates.specs.Words.{duplicate_line}
 use Rattle.rasters.specs.Rasters.{rasters_of}
 use Rattle.rules.specs.Filled.{filled}
 use Rattle.answers.specs.Answers.{is_accepted}
-use Rattle.answers.specs.declared.Answer.{Answer}
-use Rattle.answers.specs.declared.Answer.TheVariants.{Accepted}
+use Rattle.answers.specs.Outcome.{Answer, Accepted}
 use Rattle.reader.specs.Reading.{samples_laid, shapes_asked, texts_asked, file_asked, asked, rows_kept, samples_kept}
 
 -- an answer, and what the lent tables hold if it is an acceptance

@@ -1,11 +1,10 @@
 -- Reading a whole file with a site's definitions. "BIG is tested first. Then 2 to 5 line by line: the first faulty line answers, with its lowest
 -- number. Then 6 to 19 in order, each over the whole file, at the first line concerned. 1, 6, 7, 8, 10 .. give line 0."
-use Rattle.std.specs.Prelude.{ℕ, cond, List, [], ◌∷◌, ◌≡◌, eqb, ltb, ℤ, pos, length, replicate}
+use Rattle.std.specs.Prelude.{ℕ, cond, List, [], ◌∷◌, ◌≡◌, eqb, ltb, ℤ, pos, length, replicate, Err, Ok}
 use Rattle.unit.specs.declared.Rasters.{Rasters}
 use Rattle.shape.specs.declared.Edition.{Edition}
 use Rattle.file.specs.Rows.{Placed, rows_of, line_of, laid_rows, scanned_of}
-use Rattle.file.specs.declared.Scanned.{Scanned}
-use Rattle.file.specs.declared.Scanned.TheVariants.{File, Fault}
+use Rattle.file.specs.Outcome.{Scanned}
 use Rattle.repeats.specs.Repeats.{duplicate_of}
 use Rattle.rasters.specs.Rasters.{rasters_of, lacks}
 use Rattle.sampling.specs.Sampling.{first_failing, laid_from}
@@ -13,8 +12,7 @@ use Rattle.rules.specs.Rules.{first_broken}
 use Rattle.rules.specs.Filled.{filled}
 use Rattle.rules.specs.declared.Rule.{Rule}
 use Rattle.answers.specs.declared.Refusal.TheVariants.{Big, Missing, Room, Site, Duplicate, Raster, Shape}
-use Rattle.answers.specs.declared.Answer.{Answer}
-use Rattle.answers.specs.declared.Answer.TheVariants.{Accepted, Refused}
+use Rattle.answers.specs.Outcome.{Answer, Accepted, Refused}
 use Rattle.questions.specs.Asked.{is_big, fault_refusal, any_block, is_missing, lacks_room, bad_site, in_order, rule_refusal}
 
 -- ---- The tables as they are filled: the rows of the file over a lent table, and the samples of n rows over the lent samples l
@@ -48,10 +46,10 @@ texts_asked again e file site rows n l accepted =
 
 -- ---- 2 to 5 as the lines say; 6 and 7: MISSING, ROOM
 unfoldable pub file_asked : Scanned → List ℕ → List ℕ → List ℤ → List ℤ → Answer
-file_asked (Fault fault line) file site table l = Refused (fault_refusal fault) line
-file_asked (File e n s defined) file site table l =
-    cond (is_missing e (any_block (rows_of file)) defined) (Refused Missing 0)
-    (cond (lacks_room n s (length table) (length l)) (Refused Room 0) (texts_asked (duplicate_of file) e file site (rows_laid file table) n l (Accepted n s)))
+file_asked (Err why) file site table l = Refused (fault_refusal why.fault) why.line
+file_asked (Ok got) file site table l =
+    cond (is_missing got.edition (any_block (rows_of file)) got.defined) (Refused Missing 0)
+    (cond (lacks_room got.rows got.samples (length table) (length l)) (Refused Room 0) (texts_asked (duplicate_of file) got.edition file site (rows_laid file table) got.rows l (Accepted got.rows got.samples)))
 
 -- ---- 1: BIG; and all of it, over lent tables that hold these numbers
 unfoldable pub asked : List ℕ → List ℕ → List ℤ → List ℤ → Answer
@@ -59,21 +57,21 @@ asked file site table l = cond (is_big file site) (Refused Big 0) (file_asked (s
 
 -- ---- What the tables hold when a file is accepted: its rows, each block with its ns, and its samples
 unfoldable pub rows_kept : Scanned → List ℕ → List ℕ → List ℤ → List ℤ → List ℤ
-rows_kept (Fault fault line) file site table l = table
-rows_kept (File e n s defined) file site table l =
-    filled e (rasters_of e file site) (rows_laid file table) n (samples_laid e file (rows_laid file table) n l) (rows_laid file table) 0 n
+rows_kept (Err why) file site table l = table
+rows_kept (Ok got) file site table l =
+    filled got.edition (rasters_of got.edition file site) (rows_laid file table) got.rows (samples_laid got.edition file (rows_laid file table) got.rows l) (rows_laid file table) 0 got.rows
 
 unfoldable pub samples_kept : Scanned → List ℕ → List ℤ → List ℤ → List ℤ
-samples_kept (Fault fault line) file table l = l
-samples_kept (File e n s defined) file table l = samples_laid e file (rows_laid file table) n l
+samples_kept (Err why) file table l = l
+samples_kept (Ok got) file table l = samples_laid got.edition file (rows_laid file table) got.rows l
 
 -- ---- "On refusal both counts are 0 and both tables all zero. On acceptance all past the used part, and past a row's own numbers, is zero."
 abbrev pub zeros : ℕ → List ℤ
 zeros n = replicate n (pos 0)
 
 abbrev pub if_accepted : Answer → List ℤ → List ℤ → List ℤ
-if_accepted (Accepted n s) kept none = kept
-if_accepted (Refused refusal line) kept none = none
+if_accepted (Ok got) kept none = kept
+if_accepted (Err why) kept none = none
 
 -- ---- All that reading answers, with room numbers for rows and size samples lent, and all that it leaves in the tables
 unfoldable pub read_of : List ℕ → List ℕ → ℕ → ℕ → Answer

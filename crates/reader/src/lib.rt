@@ -7,12 +7,12 @@ ghost use Rattle.tables.specs.Tables.{NoneAgain};
 ghost use Rattle.file.specs.Rows.{rows_of, scanned_of};
 ghost use Rattle.file.specs.Marks.{met_walk};
 ghost use Rattle.passing.specs.Sound.{sound_of};
-ghost use Rattle.answers.specs.declared.Answer.TheVariants.{Accepted};
+ghost use Rattle.answers.specs.Outcome.{Accepted};
 ghost use Rattle.reader.specs.Reading.{rules_asked, Reading};
 ghost use Rattle.reader.specs.Inside.{RowsJudged, TextsJudged, FileJudged, AllJudged};
 
-use answers::{Answer, Refusal};
-use file::{Scanned, Walk};
+use answers::{Answer, Counts, Refusal};
+use file::{Summary, Walk};
 use shape::Edition;
 use unit::Rasters;
 
@@ -30,10 +30,10 @@ fn ask_rules(
     requires { NoneAgain rows.now n }
     ensures { result ≡ rules_asked edition rasters file.now rows.now n samples.now (Accepted n count) }
 {
-    let accepted = Answer::Accepted {
+    let accepted = Ok(Counts {
         rows: n,
         samples: count,
-    };
+    });
     if n <= rules::first_breaking(edition, rasters, rows, hints, n, samples) {
         return accepted;
     }
@@ -42,7 +42,7 @@ fn ask_rules(
         let rule = questions::rule_at(i);
         let k = rules::first_broken(rule, edition, rasters, rows, hints, n, samples);
         if k < n {
-            return Answer::Refused(questions::rule_refusal(rule), file::row_line(file, k));
+            return answers::refused(questions::rule_refusal(rule), file::row_line(file, k));
         }
         i += 1;
     }
@@ -67,12 +67,12 @@ fn judge_rows(
 {
     let failing = sampling::expand_shapes(file, shapes, edition, rows, n, samples);
     if failing < n {
-        return Answer::Refused(Refusal::Shape, file::row_line(file, failing));
+        return answers::refused(Refusal::Shape, file::row_line(file, failing));
     }
     let mut hints = [0u16; 524288];
     finding::note_rows(&mut hints, rows, n);
     let judged = ask_rules(edition, rasters, file, rows, &hints, n, samples, count);
-    if judged.is_accepted() {
+    if answers::is_accepted(judged) {
         rules::fill_lengths(edition, rasters, rows, &hints, n, samples);
     }
     judged
@@ -97,15 +97,15 @@ fn judge_texts<'a>(
     ensures { TextsJudged edition file.now site.now n count rows.old samples.old result rows.new samples.new }
 {
     if questions::has_bad_site(edition, site) {
-        return Answer::Refused(Refusal::Site, 0);
+        return answers::refused(Refusal::Site, 0);
     }
     let again = duplicates::first_duplicate(file, names, rows, n);
     if again != 0 {
-        return Answer::Refused(Refusal::Duplicate, again);
+        return answers::refused(Refusal::Duplicate, again);
     }
     let rasters = rasters::rasters(edition, file, site);
     if rasters::is_lacking(edition, rasters) {
-        return Answer::Refused(Refusal::Raster, 0);
+        return answers::refused(Refusal::Raster, 0);
     }
     judge_rows(edition, rasters, file, shapes, rows, n, samples, count)
 }
@@ -117,17 +117,19 @@ fn judge_file<'a>(file: &'a [u8], site: &'a [u8], rows: &mut [i64], samples: &mu
     let marked = file::scan_marked(file, rows);
     let scanned = marked.scanned;
     match scanned {
-        Scanned::File {
-            edition,
-            rows: n,
-            samples: count,
-            defined,
-        } => {
+        Ok(
+            Summary {
+                edition,
+                rows: n,
+                samples: count,
+                defined,
+            },
+        ) => {
             if questions::is_missing(edition, questions::has_block(file), defined) {
-                return Answer::Refused(Refusal::Missing, 0);
+                return answers::refused(Refusal::Missing, 0);
             }
             if questions::lacks_room(n, count, rows.len(), samples.len()) {
-                return Answer::Refused(Refusal::Room, 0);
+                return answers::refused(Refusal::Room, 0);
             }
             let names = marked.names;
             let shapes = marked.shapes;
@@ -143,7 +145,7 @@ fn judge_file<'a>(file: &'a [u8], site: &'a [u8], rows: &mut [i64], samples: &mu
                 count as usize,
             )
         }
-        Scanned::Fault(fault, line) => Answer::Refused(questions::fault_refusal(fault), line),
+        Err(first) => answers::refused(questions::fault_refusal(first.fault), first.line),
     }
 }
 
@@ -152,7 +154,7 @@ fn judge<'a>(file: &'a [u8], site: &'a [u8], rows: &mut [i64], samples: &mut [i6
     ensures { AllJudged file.now site.now rows.old samples.old result rows.new samples.new }
 {
     if questions::is_big(file, site) {
-        return Answer::Refused(Refusal::Big, 0);
+        return answers::refused(Refusal::Big, 0);
     }
     judge_file(file, site, rows, samples)
 }
@@ -164,7 +166,7 @@ pub fn read<'a>(file: &'a [u8], site: &'a [u8], rows: &mut [i64], samples: &mut 
     output::clear_numbers(rows, 0);
     output::clear_numbers(samples, 0);
     let answer = judge(file, site, rows, samples);
-    if !answer.is_accepted() {
+    if !answers::is_accepted(answer) {
         output::clear_numbers(rows, 0);
         output::clear_numbers(samples, 0);
     }

@@ -30,11 +30,12 @@ fn restate<'a>(file: &'a [u8], site: &'a [u8]) {
     let mut samples = [0i64; 1000];
     let mut out = [0u8; 8192];
     let restated = restater::restate(file, site, Edition::V13, &mut rows, &mut samples, &mut out);
-    if restated.is_text() {
-        io::write_all(STDOUT_FILENO, output::front(&out, restated.length()));
-        return;
+    match restated {
+        Ok(text) => {
+            io::write_all(STDOUT_FILENO, output::front(&out, text.length));
+        }
+        Err(_) => show_refused(restater::number(restated), restater::line(restated)),
     }
-    show_refused(restated.number(), restated.line());
 }
 
 // Reads the site's definitions, as many bytes as the buffer holds; none where there is no such file.

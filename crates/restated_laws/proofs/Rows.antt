@@ -27,13 +27,12 @@ use Rattle.tables.specs.Tables.{number_at}
 use Rattle.blocks.specs.Blocks.{is_block}
 use Rattle.file.specs.Whole.{is_fault, is_row, gathered}
 use Rattle.file.specs.Rows.{Placed, row_at, rows_from, rows_of, laid_row, laid_rows, scanned_of}
-use Rattle.file.specs.declared.Scanned.{Scanned}
-use Rattle.file.specs.declared.Scanned.TheVariants.{File, Fault as ScannedFault}
+use Rattle.std.proofs.Common.{Err, Ok}
+use Rattle.file.specs.Outcome.{Scanned}
 use Rattle.file_laws.specs.Ranges.{RowIn, by-columns, extension, label, shape}
 use Rattle.file_laws.proofs.Steps.{HeadIn, step-fine}
 use Rattle.rules.specs.Filled.{length_number, with_length, filled}
-use Rattle.answers.specs.declared.Answer.{Answer}
-use Rattle.answers.specs.declared.Answer.TheVariants.{Accepted, Refused}
+use Rattle.answers.specs.Outcome.{Answer}
 use Rattle.reader.specs.Reading.{rows_laid, samples_laid, rows_kept, zeros, if_accepted, read_of, rows_out}
 use Rattle.said.proofs.Short.{AllSmall, Small, none-small, more-small, set-small}
 
@@ -147,9 +146,9 @@ module _ (e : Edition) (q : Rasters) (rows : List ℤ) (n : ℕ) (samples : List
 module _ (file site : List ℕ) where
   kept_small : (scan : Scanned) (table l : List ℤ) → AllSmall table → AllSmall (rows_kept scan file site table l)
   unfolding rows_kept
-  kept_small (ScannedFault fault line) table l p = p
-  kept_small (File e n s defined) table l p =
-      filled-small e _ (rows_laid file table) n (samples_laid e file (rows_laid file table) n l) n (rows_laid file table) 0 (laid-small (each_row file) table 0 p)
+  kept_small (Err why) table l p = p
+  kept_small (Ok got) table l p =
+      filled-small got.edition _ (rows_laid file table) got.rows (samples_laid got.edition file (rows_laid file table) got.rows l) got.rows (rows_laid file table) 0 (laid-small (each_row file) table 0 p)
 
   module _ (room size : ℕ) where
     out-small : AllSmall (rows_out file site room size)
@@ -157,8 +156,8 @@ module _ (file site : List ℕ) where
     out-small = go (read_of file site room size) _ (kept_small (scanned_of file) (zeros room) (zeros size) (zeros-small room))
       where
         go : (r : Answer) (kept : List ℤ) → AllSmall kept → AllSmall (if_accepted r kept (zeros room))
-        go (Accepted n s) kept p = p
-        go (Refused refusal line) kept p = zeros-small room
+        go (Ok got) kept p = p
+        go (Err why) kept p = zeros-small room
 
     pub rows-small : Small (rows_out file site room size)
     unfolding number_at

@@ -9,14 +9,14 @@ use lib.IntN.{ℤ}
 use lib.ListN.{length, take}
 use lib.Seq.{take-append_seam}
 use Rattle.shape.specs.declared.Edition.{Edition}
-use Rattle.answers.specs.declared.Answer.{Answer}
-use Rattle.answers.specs.declared.Answer.TheVariants.{Accepted as ReadAccepted, Refused as ReadRefused}
+use Rattle.std.proofs.Common.{Err, Ok}
+use Rattle.answers.specs.Outcome.{Answer}
 use Rattle.reader.specs.Reading.{read_of, rows_out, samples_out}
 use Rattle.sources.specs.Sources.{own_rasters, asked_for}
 use Rattle.restater.specs.Answers.{rows_read, text_length, is_text}
 use Rattle.restater.specs.Restating.{is_unsayable, text_of, fits, said, restated_from, restate_of, text_for, if_text, blank_bytes, laid_out, output_after, Restating}
-use Rattle.restater.specs.declared.Restated.{Restated}
-use Rattle.restater.specs.declared.Restated.TheVariants.{Text, Refused, Unsayable, Output}
+use Rattle.restater.specs.Outcome.{Restated, Text}
+use Rattle.restater.specs.declared.Unrestated.TheVariants.{Output, Unread, Unsayable}
 use Rattle.restated_laws.specs.Limits.{ShortLines, Restates}
 use Rattle.restated_laws.proofs.Cut.{short-lines}
 use Rattle.restated_laws.proofs.Sections.{text-short}
@@ -53,8 +53,8 @@ module _ (target : Edition) (file site : List ℕ) (rows samples : List ℤ) (sp
 
   from-sized : (a : Answer) → r ≡ restated_from a target file site rows samples space → Sized (text_of target file site rows (rows_read r) samples) r space
   unfolding restated_from
-  from-sized (ReadAccepted n s) e = said-sized n s e
-  from-sized (ReadRefused refusal line) e = no_text e refl t
+  from-sized (Ok got) e = said-sized got.rows got.samples e
+  from-sized (Err why) e = no_text e refl t
 
 -- ---- A restated text is within the paper's limits, and within the lent output
 module _ (target : Edition) (file site : List ℕ) (room size space : ℕ) where
@@ -72,10 +72,10 @@ module _ (target : Edition) (file site : List ℕ) (room size space : ℕ) where
 
 -- ---- The same of what restating leaves in the lent output: as many bytes of it as the answer says
 laid-text : (r : Restated) (text none : List ℕ) (space : ℕ) → is_text r ≡ true → text_length r ≡ length text → take (text_length r) (if_text r (laid_out text space) none) ≡ text
-laid-text (Text n s len) text none space t e = rw e (take-append_seam text (blank_bytes (space - length text)))
-laid-text (Refused refusal line) text none space t e = absurd (true≢false (sym t))
-laid-text Unsayable text none space t e = absurd (true≢false (sym t))
-laid-text Output text none space t e = absurd (true≢false (sym t))
+laid-text (Ok got) text none space t e = rw e (take-append_seam text (blank_bytes (space - length text)))
+laid-text (Err (Unread why)) text none space t e = absurd (true≢false (sym t))
+laid-text (Err Unsayable) text none space t e = absurd (true≢false (sym t))
+laid-text (Err Output) text none space t e = absurd (true≢false (sym t))
 
 pub output-within : (target : Edition) (file site : List ℕ) (table l : List ℤ) (out : List ℕ) (r : Restated) (table' l' : List ℤ) (out' : List ℕ)
     → Restating target file site table l out r table' l' out' → is_text r ≡ true → Restates (take (text_length r) out') (text_length r) (length out)

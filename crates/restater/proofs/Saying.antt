@@ -15,16 +15,16 @@ use Rattle.shape.specs.declared.Edition.{Edition}
 use Rattle.needs.specs.Needs.{site_rasters}
 use Rattle.sayable.specs.Sayable.{unsayable}
 use Rattle.answers.specs.declared.Refusal.{Refusal}
-use Rattle.answers.specs.declared.Answer.{Answer}
-use Rattle.answers.specs.declared.Answer.TheVariants.{Accepted as ReadAccepted, Refused as ReadRefused}
+use Rattle.answers.specs.Outcome.{Answer, Accepted as ReadAccepted, Refused as ReadRefused}
 use Rattle.reader.specs.Reading.{Reading, zeros}
 use Rattle.sources.specs.Sources.{own_rasters, asked_for}
 use Rattle.restated.specs.Text.{restated_text}
 use Rattle.restater.specs.Answers.{rows_read, text_length, is_text}
 use Rattle.restater.specs.Restating.{text_of, said, restated_from, restate_of, fits, if_text, blank_bytes, laid_out, rows_after, samples_after, output_after, Restating}
 use Rattle.restater.specs.Inside.{SaidJudged, AnswerJudged}
-use Rattle.restater.specs.declared.Restated.{Restated}
-use Rattle.restater.specs.declared.Restated.TheVariants.{Text, Refused, Unsayable, Output}
+use Rattle.std.proofs.Common.{Err, Ok}
+use Rattle.restater.specs.Outcome.{Restated, Text, Refused}
+use Rattle.restater.specs.declared.Unrestated.TheVariants.{Output, Unread, Unsayable}
 
 -- ---- an answer that is no text
 no_text : {A : Type 0} → false ≡ true → A
@@ -36,7 +36,7 @@ module _ (target : Edition) (file site : List ℕ) (rows : List ℤ) (n : ℕ) (
   is-unsayable : unsayable target (own_rasters file site) (site_rasters site) rows n ≡ b
   is-unsayable = rw (← p, ← q) (sym u)
 
-  pub said-unsayable : b ≡ true → (out : List ℕ) → SaidJudged target file site rows n samples s out Unsayable out
+  pub said-unsayable : b ≡ true → (out : List ℕ) → SaidJudged target file site rows n samples s out (Err Unsayable) out
   unfolding said
   said-unsayable e out = record { answer = rw (is-unsayable, e); size = no_text; front = no_text; long = refl }
 
@@ -44,7 +44,7 @@ module _ (target : Edition) (file site : List ℕ) (rows : List ℤ) (n : ℕ) (
     placed : Put out 0 (text_of target file site rows n samples) r out'
     placed = rw p at w
 
-    pub said-output : min (length out') 16777216 < r → SaidJudged target file site rows n samples s out Output out'
+    pub said-output : min (length out') 16777216 < r → SaidJudged target file site rows n samples s out (Err Output) out'
     unfolding said
     said-output h =
         let g : min (length out) (2 ^ 24) < length (text_of target file site rows n samples) = omega (arith, placed.place, put-length placed) in
@@ -92,22 +92,22 @@ module _ (asked : Answer) (target : Edition) (file site : List ℕ) (rows sample
 
 -- ---- the answer as a text or not
 if-text : {A : Type 0} (r : Restated) (x y : A) → is_text r ≡ true → x ≡ if_text r x y
-if-text (Text rows samples size) x y e = refl
-if-text (Refused refusal line) x y e = no_text e
-if-text Unsayable x y e = no_text e
-if-text Output x y e = no_text e
+if-text (Ok got) x y e = refl
+if-text (Err (Unread why)) x y e = no_text e
+if-text (Err Unsayable) x y e = no_text e
+if-text (Err Output) x y e = no_text e
 
 if_none : {A : Type 0} (r : Restated) (x y : A) → is_text r ≡ false → y ≡ if_text r x y
-if_none (Text rows samples size) x y e = no_text (sym e)
-if_none (Refused refusal line) x y e = refl
-if_none Unsayable x y e = refl
-if_none Output x y e = refl
+if_none (Ok got) x y e = no_text (sym e)
+if_none (Err (Unread why)) x y e = refl
+if_none (Err Unsayable) x y e = refl
+if_none (Err Output) x y e = refl
 
 none-long : (r : Restated) → is_text r ≡ false → text_length r ≡ 0
-none-long (Text rows samples size) e = no_text (sym e)
-none-long (Refused refusal line) e = refl
-none-long Unsayable e = refl
-none-long Output e = refl
+none-long (Ok got) e = no_text (sym e)
+none-long (Err (Unread why)) e = refl
+none-long (Err Unsayable) e = refl
+none-long (Err Output) e = refl
 
 -- ---- what restating leaves
 module _ (target : Edition) (file site : List ℕ) (table l : List ℤ) (out : List ℕ) (a : Answer) (table₁ l₁ : List ℤ) (p : Reading file site table l a table₁ l₁)

@@ -1,10 +1,10 @@
 -- The outcome of restating is unique. Assumes nothing.
+use Rattle.restater.specs.Outcome.{Restated}
 use mathlib.Core.List.{List}
 use Prim.Native.Nat.{ℕ}
 use mathlib.Core.Path.{◌≡◌, sym, ◌∙◌}
 use lib.IntN.{ℤ}
 use Rattle.shape.specs.declared.Edition.{Edition}
-use Rattle.restater.specs.declared.Restated.{Restated}
 use Rattle.restater.specs.Restating.{Restating}
 
 -- ---- two restatings of the same file with the same site to the same target, into tables and outputs of the same lengths, answer the same and leave the same

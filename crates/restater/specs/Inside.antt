@@ -1,10 +1,10 @@
 -- What the inner functions answer. Nothing here needs to be believed: laws lead from these to the definitions of the other files.
+use Rattle.restater.specs.Outcome.{Restated}
+use Rattle.answers.specs.Outcome.{Answer}
 use Rattle.std.specs.Prelude.{ℕ, true, List, ◌≡◌, ℤ, length, take}
 use Rattle.shape.specs.declared.Edition.{Edition}
-use Rattle.answers.specs.declared.Answer.{Answer}
 use Rattle.restater.specs.Answers.{rows_read, text_length, is_text}
 use Rattle.restater.specs.Restating.{text_of, said, restated_from}
-use Rattle.restater.specs.declared.Restated.{Restated}
 
 -- an answer, and what stands in front of the lent output if it is a text
 pub record Judged (a : Restated) (text out : List ℕ) (r : Restated) (out' : List ℕ) : Type 0 where

@@ -1,16 +1,15 @@
 -- Restating a file to a target. "Then 6 to 19 in order": what reading and the target ask, then UNSAYABLE, then OUTPUT.
-use Rattle.std.specs.Prelude.{ℕ, ◌-◌, ◌^◌, min, Bool, cond, List, ◌++◌, ◌≡◌, leb, ℤ, length, replicate}
+use Rattle.std.specs.Prelude.{ℕ, ◌-◌, ◌^◌, min, Bool, cond, List, ◌++◌, ◌≡◌, leb, ℤ, length, replicate, Err, Ok}
 use Rattle.shape.specs.declared.Edition.{Edition}
 use Rattle.needs.specs.Needs.{site_rasters}
 use Rattle.sayable.specs.Sayable.{unsayable}
-use Rattle.answers.specs.declared.Answer.{Answer}
-use Rattle.answers.specs.declared.Answer.TheVariants.{Accepted as ReadAccepted, Refused as ReadRefused}
+use Rattle.answers.specs.Outcome.{Answer}
 use Rattle.reader.specs.Reading.{zeros, read_of, rows_out, samples_out}
 use Rattle.sources.specs.Sources.{own_rasters, asked_for}
 use Rattle.restated.specs.Text.{restated_text}
 use Rattle.restater.specs.Answers.{rows_read}
-use Rattle.restater.specs.declared.Restated.{Restated}
-use Rattle.restater.specs.declared.Restated.TheVariants.{Text, Refused, Unsayable, Output}
+use Rattle.restater.specs.Outcome.{Restated, Text, Refused}
+use Rattle.restater.specs.declared.Unrestated.TheVariants.{Output, Unread, Unsayable}
 
 -- ---- UNSAYABLE of n rows, by the rasters that the file goes by and the site's
 abbrev pub is_unsayable : Edition → List ℕ → List ℕ → List ℤ → ℕ → Bool
@@ -27,12 +26,12 @@ fits text space = leb (length text) (min space (2 ^ 24))
 -- ---- From 18 on, of a file that was accepted with n rows and s samples, in tables that hold them
 unfoldable pub said : Edition → List ℕ → List ℕ → List ℤ → ℕ → List ℤ → ℕ → ℕ → Restated
 said target file site rows n samples s space =
-    cond (is_unsayable target file site rows n) Unsayable
-    (cond (fits (text_of target file site rows n samples) space) (Text n s (length (text_of target file site rows n samples))) Output)
+    cond (is_unsayable target file site rows n) (Err Unsayable)
+    (cond (fits (text_of target file site rows n samples) space) (Text n s (length (text_of target file site rows n samples))) (Err Output))
 
 unfoldable pub restated_from : Answer → Edition → List ℕ → List ℕ → List ℤ → List ℤ → ℕ → Restated
-restated_from (ReadAccepted n s) target file site rows samples space = said target file site rows n samples s space
-restated_from (ReadRefused refusal line) target file site rows samples space = Refused refusal line
+restated_from (Ok got) target file site rows samples space = said target file site rows got.rows samples got.samples space
+restated_from (Err why) target file site rows samples space = Refused why.refusal why.line
 
 -- ---- All that restating answers, with room numbers for rows, size samples and space bytes lent
 unfoldable pub restate_of : Edition → List ℕ → List ℕ → ℕ → ℕ → ℕ → Restated
@@ -41,10 +40,10 @@ restate_of target file site room size space =
 
 -- ---- What it leaves: "On acceptance the tables hold what was read"; "Restating also gets an output slice ..; the rest, or all of it on refusal, is zero."
 abbrev pub if_text : {A : Type 0} → Restated → A → A → A
-if_text (Text rows samples length) kept none = kept
-if_text (Refused refusal line) kept none = none
-if_text Unsayable kept none = none
-if_text Output kept none = none
+if_text (Ok got) kept none = kept
+if_text (Err (Unread why)) kept none = none
+if_text (Err Unsayable) kept none = none
+if_text (Err Output) kept none = none
 
 abbrev pub blank_bytes : ℕ → List ℕ
 blank_bytes n = replicate n 0

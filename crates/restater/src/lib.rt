@@ -7,94 +7,85 @@ ghost use Rattle.restater.specs.Answers.{restated_number, restated_line, rows_re
 ghost use Rattle.restater.specs.Restating.{Restating};
 ghost use Rattle.restater.specs.Inside.{SaidJudged, AnswerJudged};
 
-use answers::{Answer, Refusal};
+use answers::{Answer, Counts, RefusedAt};
 use shape::Edition;
 
-// What restating answers: how many rows and samples were read and how long the text is; or a refusal, of reading, UNSAYABLE or OUTPUT.
+// How many rows and samples were read of a restated file, and how long its text is.
 #[derive(Clone, Copy)]
-pub enum Restated {
-    Text {
-        rows: usize,
-        samples: usize,
-        length: usize,
-    },
-    Refused(Refusal, usize),
+pub struct Text {
+    pub rows: usize,
+    pub samples: usize,
+    pub length: usize,
+}
+
+// Why a file is not restated: a refusal of reading, UNSAYABLE or OUTPUT.
+#[derive(Clone, Copy)]
+pub enum Unrestated {
+    Unread(RefusedAt),
     Unsayable,
     Output,
 }
 
-impl Restated {
-    // The paper's number of this answer.
-    pub fn number(self) -> u64
-        ensures { result ≡ restated_number self }
-    {
-        match self {
-            Restated::Text { .. } => 0,
-            Restated::Refused(refusal, _) => refusal.number(),
-            Restated::Unsayable => 18,
-            Restated::Output => 19,
-        }
-    }
+// What restating answers.
+pub type Restated = Result<Text, Unrestated>;
 
-    // The line of this answer.
-    pub fn line(self) -> usize
-        ensures { result ≡ restated_line self }
-    {
-        match self {
-            Restated::Text { .. } => 0,
-            Restated::Refused(_, line) => line,
-            Restated::Unsayable => 0,
-            Restated::Output => 0,
-        }
+// The paper's number of an answer.
+pub fn number(restated: Restated) -> u64
+    ensures { result ≡ restated_number restated }
+{
+    match restated {
+        Ok(_) => 0,
+        Err(Unrestated::Unread(refused)) => refused.refusal.number(),
+        Err(Unrestated::Unsayable) => 18,
+        Err(Unrestated::Output) => 19,
     }
+}
 
-    // How many rows of the lent table are used.
-    pub fn rows(self) -> usize
-        ensures { result ≡ rows_read self }
-    {
-        match self {
-            Restated::Text { rows, .. } => rows,
-            Restated::Refused(_, _) => 0,
-            Restated::Unsayable => 0,
-            Restated::Output => 0,
-        }
+// The line of an answer.
+pub fn line(restated: Restated) -> usize
+    ensures { result ≡ restated_line restated }
+{
+    match restated {
+        Err(Unrestated::Unread(refused)) => refused.line,
+        Ok(_) | Err(Unrestated::Unsayable) | Err(Unrestated::Output) => 0,
     }
+}
 
-    // How many of the lent samples are used.
-    pub fn samples(self) -> usize
-        ensures { result ≡ samples_read self }
-    {
-        match self {
-            Restated::Text { samples, .. } => samples,
-            Restated::Refused(_, _) => 0,
-            Restated::Unsayable => 0,
-            Restated::Output => 0,
-        }
+// How many rows of the lent table are used.
+pub fn rows(restated: Restated) -> usize
+    ensures { result ≡ rows_read restated }
+{
+    match restated {
+        Ok(text) => text.rows,
+        Err(_) => 0,
     }
+}
 
-    // How long the text is.
-    pub fn length(self) -> usize
-        ensures { result ≡ text_length self }
-    {
-        match self {
-            Restated::Text { length, .. } => length,
-            Restated::Refused(_, _) => 0,
-            Restated::Unsayable => 0,
-            Restated::Output => 0,
-        }
+// How many of the lent samples are used.
+pub fn samples(restated: Restated) -> usize
+    ensures { result ≡ samples_read restated }
+{
+    match restated {
+        Ok(text) => text.samples,
+        Err(_) => 0,
     }
+}
 
-    // Is there a text?
-    pub fn is_text(self) -> bool
-        ensures { result ≡ is_text self }
-    {
-        match self {
-            Restated::Text { .. } => true,
-            Restated::Refused(_, _) => false,
-            Restated::Unsayable => false,
-            Restated::Output => false,
-        }
+// How long the text is.
+pub fn length(restated: Restated) -> usize
+    ensures { result ≡ text_length restated }
+{
+    match restated {
+        Ok(text) => text.length,
+        Err(_) => 0,
     }
+}
+
+// Is there a text?
+pub fn is_text(restated: Restated) -> bool
+    ensures { result ≡ is_text restated }
+{
+    restated.is_ok()
 }
 
 // UNSAYABLE and OUTPUT, of a file that was accepted with n rows and so many samples; writes the text.
@@ -112,21 +103,21 @@ fn say<'a>(
 {
     let own = sources::own_rasters(file, site);
     if sayable::is_unsayable(target, own, needs::site_rasters(site), rows, n) {
-        return Restated::Unsayable;
+        return Err(Unrestated::Unsayable);
     }
     let raster = own.block;
     let length = restated::put_text(out, target, raster, file, site, rows, n, samples);
     if out.len() < length {
-        return Restated::Output;
+        return Err(Unrestated::Output);
     }
     if 16777216 < length {
-        return Restated::Output;
+        return Err(Unrestated::Output);
     }
-    Restated::Text {
+    Ok(Text {
         rows: n,
         samples: count,
         length,
-    }
+    })
 }
 
 // What follows of what was asked of the source: its refusal, or what can be said.
@@ -142,11 +133,13 @@ fn answer<'a>(
     ensures { AnswerJudged asked target file.now site.now rows.now samples.now out.old result out.new }
 {
     match asked {
-        Answer::Accepted {
-            rows: n,
-            samples: count,
-        } => say(target, file, site, rows, n, samples, count, out),
-        Answer::Refused(refusal, line) => Restated::Refused(refusal, line),
+        Ok(
+            Counts {
+                rows: n,
+                samples: count,
+            },
+        ) => say(target, file, site, rows, n, samples, count, out),
+        Err(refused) => Err(Unrestated::Unread(refused)),
     }
 }
 
@@ -165,8 +158,8 @@ pub fn restate<'a>(
     let read = reader::read(file, site, rows, samples);
     let asked = sources::ask_also(target, file, site, read);
     let restated = answer(asked, target, file, site, rows, samples, out);
-    output::clear_bytes(out, restated.length());
-    if !restated.is_text() {
+    output::clear_bytes(out, length(restated));
+    if !is_text(restated) {
         output::clear_numbers(rows, 0);
         output::clear_numbers(samples, 0);
     }

@@ -1,7 +1,7 @@
 -- One shape: when it does not fail, and what its part of the lent samples holds then. Assumes nothing.
+use Rattle.shape.specs.Answers.{Expanded}
 use Rattle.shape.specs.declared.Unexpanded.TheVariants.{Room, Field, Shape}
-use Rattle.shape.specs.declared.Unexpanded.{Unexpanded}
-use Rattle.std.proofs.Common.{Result, Ok, Err}
+use Rattle.std.proofs.Common.{Ok, Err}
 use Prim.Native.Nat.{ℕ, ◌+◌, ◌-◌, ◌≤◌}
 use mathlib.Core.Bool.{Bool, true, false, cond, not, ◌&&◌, true≢false}
 use mathlib.Core.List.{List, ◌++◌, append-nil}
@@ -62,7 +62,7 @@ module _ (edition : Edition) (num : ℕ) (text : List ℕ) where
     unfolding table_of failed samples_after
     table-zeros e = go (expanded_of edition num text room) e
       where
-        go : (r : (Result ℕ Unexpanded)) → failed r ≡ true → samples_after r samples_of room ≡ replicate room (pos 0)
+        go : (r : Expanded) → failed r ≡ true → samples_after r samples_of room ≡ replicate room (pos 0)
         go (Ok n) f = absurd (true≢false (sym f))
         go (Err Field) f = refl
         go (Err Shape) f = refl

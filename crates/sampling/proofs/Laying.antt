@@ -1,6 +1,5 @@
 -- What expanding one shape, and one row after another, leaves in the lent samples. Assumes nothing.
-use Rattle.shape.specs.declared.Unexpanded.{Unexpanded}
-use Rattle.std.proofs.Common.{Result}
+use Rattle.shape.specs.Answers.{Expanded}
 use Prim.Native.Nat.{ℕ, suc, ◌+◌, ◌-◌, ◌≤◌, ◌<◌, min}
 use mathlib.Core.Bool.{Bool, true, false}
 use mathlib.Core.List.{List, append_assoc}
@@ -58,7 +57,7 @@ module _ (edition : Edition) (text : List ℕ) (rows : List ℤ) (k : ℕ) (l : 
   part_length : length (mid_of from (from + room - from) l) ≡ room
   part_length = let m = mid_len from (from + room) l within in omega arith
 
-  module _ (e : (Result ℕ Unexpanded)) (m : List ℤ) (x : Expansion edition num text (mid_of from (from + room - from) l) e m) (r : Bool) (q : r ≡ failed e) where
+  module _ (e : Expanded) (m : List ℤ) (x : Expansion edition num text (mid_of from (from + room - from) l) e m) (r : Bool) (q : r ≡ failed e) where
     expanded-is : e ≡ expanded_of edition (num_at rows k) text (room_at rows (length l) k)
     expanded-is = x.answer ∙ rw (part_length, ← num-is, ← room-is)
 

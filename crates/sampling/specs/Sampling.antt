@@ -1,8 +1,8 @@
 -- The shapes of a whole file, expanded. "SHAPE: stored values don't expand". Rows are those of an arbitrary table, and size is how many samples are
 -- lent.
+use Rattle.shape.specs.Answers.{Expanded}
 use Rattle.shape.specs.declared.Unexpanded.TheVariants.{Room, Field, Shape}
-use Rattle.shape.specs.declared.Unexpanded.{Unexpanded}
-use Rattle.std.specs.Prelude.{ℕ, zero, suc, ◌+◌, ◌-◌, ◌≤◌, ◌<◌, min, Bool, true, false, cond, ◌&&◌, List, ◌⊎◌, ◌≡◌, ℤ, pos, nat_abs, length, Result, Ok, Err}
+use Rattle.std.specs.Prelude.{ℕ, zero, suc, ◌+◌, ◌-◌, ◌≤◌, ◌<◌, min, Bool, true, false, cond, ◌&&◌, List, ◌⊎◌, ◌≡◌, ℤ, pos, nat_abs, length, Ok, Err}
 use Rattle.std.proofs.lemmas.List.Edits.{sets}
 use Rattle.signed.specs.Signed.{same_z}
 use Rattle.columns.specs.Columns.{shape_kind}
@@ -38,7 +38,7 @@ unfoldable pub room_at : List ℤ → ℕ → ℕ → ℕ
 room_at rows size k = min (num_at rows k) (size - from_at rows size k)
 
 -- ---- SHAPE, asked of one row, and the first of n rows that breaks it
-unfoldable pub failed : (Result ℕ Unexpanded) → Bool
+unfoldable pub failed : Expanded → Bool
 failed (Ok n) = false
 failed (Err Field) = true
 failed (Err Shape) = true

@@ -7,6 +7,9 @@ use Rattle.print.specs.Printed.{digits_of, sample_text}
 use Rattle.shape.specs.declared.Edition.{Edition}
 use Rattle.shape.specs.declared.Edition.TheVariants.{V13, V14}
 
+abbrev pub Written : Type 0
+Written = Result ℕ Unwritten
+
 -- ---- "Writing: differences of samples"
 unfoldable pub differences_from : ℤ → List ℤ → List ℤ
 differences_from p [] = []
@@ -69,23 +72,23 @@ stored_text edition zs = cond (all_within zs) (text_of edition zs) []
 unfoldable pub is_writable : List ℤ → Bool
 is_writable zs = leb 1 (length zs) && leb (length zs) 1000000 && all_within zs
 
-unfoldable pub written_of : Edition → List ℤ → ℕ → (Result ℕ Unwritten)
+unfoldable pub written_of : Edition → List ℤ → ℕ → Written
 written_of edition zs room =
     cond (is_writable zs) (cond (leb (length (text_of edition zs)) (min room (2 ^ 24))) (Ok (length (text_of edition zs))) (Err Output)) (Err Shape)
 
 -- the paper's number of each answer, and the length of the text
-abbrev pub number_of : (Result ℕ Unwritten) → ℕ
+abbrev pub number_of : Written → ℕ
 number_of (Ok n) = 0
 number_of (Err Shape) = 11
 number_of (Err Output) = 19
 
-abbrev pub length_of : (Result ℕ Unwritten) → ℕ
+abbrev pub length_of : Written → ℕ
 length_of (Ok n) = n
 length_of (Err Shape) = 0
 length_of (Err Output) = 0
 
 -- the lent output afterwards: the text and then zeros; on a refusal zeros throughout
-unfoldable pub output_after : (Result ℕ Unwritten) → List ℕ → ℕ → List ℕ
+unfoldable pub output_after : Written → List ℕ → ℕ → List ℕ
 output_after (Ok n) t room = t ++ replicate (room - length t) 0
 output_after (Err Shape) t room = replicate room 0
 output_after (Err Output) t room = replicate room 0
@@ -94,6 +97,6 @@ unfoldable pub output_of : Edition → List ℤ → ℕ → List ℕ
 output_of edition zs room = output_after (written_of edition zs room) (text_of edition zs) room
 
 -- what writing answers, and what it leaves in the lent output l
-pub record Writing (edition : Edition) (zs : List ℤ) (l : List ℕ) (r : (Result ℕ Unwritten)) (l' : List ℕ) : Type 0 where
+pub record Writing (edition : Edition) (zs : List ℤ) (l : List ℕ) (r : Written) (l' : List ℕ) : Type 0 where
   pub answer : r ≡ written_of edition zs (length l)
   pub output : l' ≡ output_of edition zs (length l)

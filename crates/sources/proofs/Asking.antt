@@ -8,13 +8,11 @@ use Rattle.shape.specs.declared.Edition.{Edition}
 use Rattle.shape.specs.declared.Edition.TheVariants.{V13}
 use Rattle.places.specs.declared.Fault.{Fault as LineFault}
 use Rattle.file.specs.Rows.{scanned_of}
-use Rattle.file.specs.declared.Scanned.{Scanned}
-use Rattle.file.specs.declared.Scanned.TheVariants.{File, Fault}
+use Rattle.file.specs.Outcome.{Scanned, File, Fault}
 use Rattle.answers.specs.Answers.{refusal_number}
 use Rattle.answers.specs.declared.Refusal.{Refusal}
 use Rattle.answers.specs.declared.Refusal.TheVariants.{Site, Raster}
-use Rattle.answers.specs.declared.Answer.{Answer}
-use Rattle.answers.specs.declared.Answer.TheVariants.{Accepted, Refused}
+use Rattle.answers.specs.Outcome.{Answer, Accepted, Refused}
 use Rattle.sources.specs.Sources.{edition_in, is_below, bad_site_for, lacking_for, asked_for}
 
 -- ---- the edition

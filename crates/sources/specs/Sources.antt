@@ -1,32 +1,30 @@
 -- What restating asks of its source: all that reading asks, with SITE and RASTER asked for restating. "SITE applies to 1.3 files and to all
 -- restating." "Then 6 to 19 in order".
-use Rattle.std.specs.Prelude.{ℕ, Bool, false, cond, not, ◌&&◌, List, ltb}
+use Rattle.std.specs.Prelude.{ℕ, Bool, false, cond, not, ◌&&◌, List, ltb, Err, Ok}
 use Rattle.unit.specs.declared.Rasters.{Rasters}
 use Rattle.shape.specs.declared.Edition.{Edition}
 use Rattle.shape.specs.declared.Edition.TheVariants.{V13}
 use Rattle.file.specs.Rows.{scanned_of}
-use Rattle.file.specs.declared.Scanned.{Scanned}
-use Rattle.file.specs.declared.Scanned.TheVariants.{File, Fault}
+use Rattle.file.specs.Outcome.{Scanned}
 use Rattle.definitions.specs.Definitions.{site_fault}
 use Rattle.rasters.specs.Rasters.{rasters_of}
 use Rattle.needs.specs.Needs.{site_rasters, lacks_for}
 use Rattle.answers.specs.Answers.{refusal_number}
 use Rattle.answers.specs.declared.Refusal.TheVariants.{Site, Raster}
-use Rattle.answers.specs.declared.Answer.{Answer}
-use Rattle.answers.specs.declared.Answer.TheVariants.{Accepted, Refused}
+use Rattle.answers.specs.Outcome.{Answer, Refused}
 
 -- ---- The edition of a source, and the rasters that it goes by; a file with a faulty line, which is refused before, counts as 1.3
 unfoldable pub edition_in : Scanned → Edition
-edition_in (File e rows samples defined) = e
-edition_in (Fault fault line) = V13
+edition_in (Ok got) = got.edition
+edition_in (Err why) = V13
 
 unfoldable pub own_rasters : List ℕ → List ℕ → Rasters
 own_rasters file site = rasters_of (edition_in (scanned_of file)) file site
 
 -- ---- A refusal with a lower number than this
 unfoldable pub is_below : ℕ → Answer → Bool
-is_below number (Accepted rows samples) = false
-is_below number (Refused refusal line) = ltb (refusal_number refusal) number
+is_below number (Ok got) = false
+is_below number (Err why) = ltb (refusal_number why.refusal) number
 
 -- ---- SITE and RASTER in their places among what reading answers
 unfoldable pub bad_site_for : List ℕ → Answer → Bool

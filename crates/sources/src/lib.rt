@@ -6,7 +6,6 @@ ghost use Rattle.file.specs.Rows.{scanned_of};
 ghost use Rattle.sources.specs.Sources.{edition_in, own_rasters, is_below, lacks_rasters, bad_site_for, lacking_for, asked_for};
 
 use answers::{Answer, Refusal};
-use file::Scanned;
 use shape::Edition;
 use unit::Rasters;
 
@@ -16,8 +15,8 @@ fn edition_of(file: &[u8]) -> Edition
 {
     let mut none = [0i64; 1];
     match file::scan(file, &mut none) {
-        Scanned::File { edition, .. } => edition,
-        Scanned::Fault(_, _) => Edition::V13,
+        Ok(summary) => summary.edition,
+        Err(_) => Edition::V13,
     }
 }
 
@@ -41,8 +40,8 @@ fn is_below(number: u64, read: Answer) -> bool
     ensures { result ≡ is_below number read }
 {
     match read {
-        Answer::Accepted { .. } => false,
-        Answer::Refused(refusal, _) => refusal.number() < number,
+        Ok(_) => false,
+        Err(refused) => refused.refusal.number() < number,
     }
 }
 
@@ -71,10 +70,10 @@ pub fn ask_also<'a>(target: Edition, file: &'a [u8], site: &'a [u8], read: Answe
     ensures { result ≡ asked_for target file.now site.now read }
 {
     if is_bad_site(site, read) {
-        return Answer::Refused(Refusal::Site, 0);
+        return answers::refused(Refusal::Site, 0);
     }
     if is_lacking(target, file, site, read) {
-        return Answer::Refused(Refusal::Raster, 0);
+        return answers::refused(Refusal::Raster, 0);
     }
     read
 }

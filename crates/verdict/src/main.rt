@@ -4,7 +4,7 @@
 
 ghost use Rattle.io.specs.Counts.{IsPrefixLen};
 
-use answers::{Answer, Refusal};
+use answers::Refusal;
 use std::fs;
 use std::os::fd::AsRawFd;
 
@@ -83,11 +83,8 @@ fn judge<'a>(file: &'a [u8], site: &'a [u8]) {
     let mut rows = [0i64; 120000];
     let mut samples = [0i64; 100000];
     match reader::read(file, site, &mut rows, &mut samples) {
-        Answer::Accepted {
-            rows: n,
-            samples: count,
-        } => show_accepted(n, count),
-        Answer::Refused(refusal, line) => show_refused(refusal, line),
+        Ok(counts) => show_accepted(counts.rows, counts.samples),
+        Err(refused) => show_refused(refused.refusal, refused.line),
     }
 }
 

@@ -1,9 +1,14 @@
--- `lookups::has_fault` meets its contract. Assumes nothing.
-use Rattle.lookups.proofs.Looking.{no-fault, a-fault}
+-- `lookups::has_fault` meets its contract: a fault is an error. Assumes nothing.
+use Rattle.std.proofs.Common.{◌≡◌, ◌∙◌, refl, ap, Ok, Err}
+use Rattle.core.specs.Result.{is_err}
+use Rattle.file.specs.Outcome.{Scanned}
+use Rattle.lookups.specs.Looking.{is_at_fault}
 use Rattle.lookups.proofs.has_fault.Goals as goal
 
-pub returns-in-File : goal.returns-in-File
-returns-in-File c = no-fault _ _ c.scan.ensures.answer c.in-File.is
+error_fault : (s : Scanned) → is_err s ≡ is_at_fault s
+unfolding is_at_fault
+error_fault (Ok got) = refl
+error_fault (Err why) = refl
 
-pub returns-in-Fault : goal.returns-in-Fault
-returns-in-Fault c = a-fault _ _ c.scan.ensures.answer c.in-Fault.is
+pub returns : goal.returns
+returns c = c.is_err.ensures.value ∙ error_fault _ ∙ ap is_at_fault c.scan.ensures.answer

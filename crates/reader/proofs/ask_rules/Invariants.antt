@@ -2,7 +2,7 @@
 use Prim.Native.Nat.{◌-◌}
 use Rattle.file.specs.Rows.{rows_of}
 use Rattle.rules.specs.Rules.{first_broken}
-use Rattle.answers.specs.declared.Answer.TheVariants.{Accepted}
+use Rattle.answers.specs.Outcome.{Accepted}
 use Rattle.reader.proofs.Judging.{RulesLeft}
 use Rattle.reader.proofs.ask_rules.Given as goal
 

@@ -11,7 +11,7 @@ full : (n : ℕ) → n ≡ length {A = ℕ} (replicate n 0)
 full n = sym (length-replicate n 0)
 
 pub returns-then-failing-n : goal.returns-then-failing-n
-returns-then-failing-n c = judged-no _ _ (shape-fails _ _ _ _ _ _ _ _ c.expand_shapes-failing.ensures.answer c.if-failing-n.true _ c.row_line.ensures)
+returns-then-failing-n c = rw c.refused.ensures (judged-no _ _ (shape-fails _ _ _ _ _ _ _ _ c.expand_shapes-failing.ensures.answer c.if-failing-n.true _ c.row_line.ensures))
 
 pub returns-then-is_accepted : goal.returns-then-is_accepted
 returns-then-is_accepted c = rows-accepted _ _ _ _ _ _ _ _ c.expand_shapes-failing.ensures.answer c.if-failing-n.false _ c.expand_shapes-failing.ensures.samples _ c.ask_rules-judged.ensures _ c.fill_lengths.ensures

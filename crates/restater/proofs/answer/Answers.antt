@@ -2,8 +2,8 @@
 use Rattle.restater.proofs.Saying.{answer-said, answer-refused}
 use Rattle.restater.proofs.answer.Goals as goal
 
-pub returns-in-Accepted : goal.returns-in-Accepted
-returns-in-Accepted c = answer-said _ _ _ _ _ _ _ _ _ c.in-Accepted.is _ _ c.say.ensures
+pub returns-in-Ok : goal.returns-in-Ok
+returns-in-Ok c = answer-said _ _ _ _ _ _ _ _ _ c.in-Ok.is _ _ c.say.ensures
 
-pub returns-in-Refused : goal.returns-in-Refused
-returns-in-Refused c = answer-refused _ _ _ _ _ _ _ _ _ c.in-Refused.is
+pub returns-in-Err : goal.returns-in-Err
+returns-in-Err c = answer-refused _ _ _ _ _ _ _ _ _ c.in-Err.is

@@ -1,4 +1,5 @@
 -- `sampling::has_failed` meets its contract: each way to fail is an error. Assumes nothing.
+use Rattle.shape.specs.Answers.{Expanded}
 use Rattle.std.proofs.Common.{ℕ, ◌≡◌, ◌∙◌, refl, Result, Ok, Err}
 use Rattle.core.specs.Result.{is_err}
 use Rattle.shape.specs.declared.Unexpanded.{Unexpanded}

@@ -2,8 +2,8 @@
 use Rattle.sources.proofs.Asking.{edition-of, edition-none}
 use Rattle.sources.proofs.edition_of.Goals as goal
 
-pub returns-in-File : goal.returns-in-File
-returns-in-File c = edition-of _ _ c.scan.ensures.answer _ _ _ _ c.in-File.is
+pub returns-in-Ok : goal.returns-in-Ok
+returns-in-Ok c = edition-of _ _ c.scan.ensures.answer _ _ _ _ c.in-Ok.is
 
-pub returns-in-Fault : goal.returns-in-Fault
-returns-in-Fault c = edition-none _ _ c.scan.ensures.answer _ _ c.in-Fault.is
+pub returns-in-Err : goal.returns-in-Err
+returns-in-Err c = edition-none _ _ c.scan.ensures.answer _ _ c.in-Err.is

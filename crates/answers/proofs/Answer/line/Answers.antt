@@ -1,5 +1,0 @@
--- `answers::Answer::line` meets its contract. Assumes nothing.
-use Rattle.answers.proofs.Answer.line.Goals as goal
-
-pub returns-in-Refused : goal.returns-in-Refused
-returns-in-Refused c = rw c.in-Refused.is

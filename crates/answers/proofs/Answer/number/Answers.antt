@@ -1,5 +1,0 @@
--- `answers::Answer::number` meets its contract. Assumes nothing.
-use Rattle.answers.proofs.Answer.number.Goals as goal
-
-pub returns-in-Refused : goal.returns-in-Refused
-returns-in-Refused c = rw c.in-Refused.is c.number.ensures
