@@ -1,4 +1,5 @@
 -- An empty key is found nowhere: the key of a definition has a byte. Assumes nothing.
+use Rattle.std.proofs.Common.{None, Some}
 use Prim.Native.Nat.{ℕ, suc}
 use mathlib.Core.Bool.{Bool, true, false, cond, ◌&&◌}
 use mathlib.Core.List.{List, [], ◌∷◌, ◌++◌}
@@ -25,10 +26,9 @@ use Rattle.grammar.specs.Steps.{blank_step, marked_step, step_of}
 use Rattle.file.specs.Whole.{is_fault, is_defined, gathered}
 use Rattle.definitions.specs.Definitions.{Definition, definition_at, definitions_from, definitions_of, site_mark, site_line, site_at, site_in, site_definitions, sought, either_of, definition_of}
 use Rattle.lookups.specs.Looking.{is_faulty, looked_up}
-use Rattle.lookups.specs.Spots.{spot_number, definition_spot}
+use Rattle.lookups.specs.Spots.{source_number, Spot, spot_number, definition_spot}
+use Rattle.lookups.specs.declared.Source.{Source}
 use Rattle.lookups.specs.declared.Source.TheVariants.{File, Site}
-use Rattle.lookups.specs.declared.Spot.{Spot}
-use Rattle.lookups.specs.declared.Spot.TheVariants.{Nowhere, In}
 use Rattle.lookups.proofs.Spots.{definition-stands}
 
 -- ---- a line without a key is blank
@@ -110,11 +110,14 @@ empty-key-looked file site = go (is_faulty file site)
     go true = refl
     go false = rw (file-empty fresh 1 (lines_of file), site-empty (lines_of site))
 
-no_number : (s : Spot) → spot_number s ≡ 0 → s ≡ Nowhere
-no_number Nowhere e = refl
-no_number (In File start n) e = absurd (omega arith)
-no_number (In Site start n) e = absurd (omega arith)
+positive : {A : Type 0} (source : Source) → source_number source ≡ 0 → A
+positive File e = absurd (omega arith)
+positive Site e = absurd (omega arith)
 
-pub empty-key-nowhere : (file site : List ℕ) → definition_spot file site [] ≡ Nowhere
+no_number : (s : Spot) → spot_number s ≡ 0 → s ≡ None
+no_number None e = refl
+no_number (Some part) e = positive part.source e
+
+pub empty-key-nowhere : (file site : List ℕ) → definition_spot file site [] ≡ None
 empty-key-nowhere file site =
     no_number (definition_spot file site []) (eqb-true (spot_number (definition_spot file site [])) 0 ((definition-stands file site []).none ∙ rw (empty-key-looked file site)))

@@ -1,4 +1,5 @@
 -- Worked examples, computed from the definitions. Assumes nothing.
+use Rattle.std.proofs.Common.{None}
 use Prim.Native.Nat.{ℕ}
 use mathlib.Core.List.{List, [], ◌∷◌}
 use mathlib.Core.Path.{◌≡◌, refl}
@@ -29,9 +30,8 @@ use Rattle.duplicates.specs.Words.{row_names, found_names, once_of, word_of, wor
 use Rattle.repeats.specs.Repeats.{next_row, rows_again, duplicate_of}
 use Rattle.questions.specs.Asked.{is_big}
 use Rattle.lookups.specs.Looking.{is_at_fault, is_faulty}
-use Rattle.lookups.specs.Spots.{spot_in, definition_spot}
+use Rattle.lookups.specs.Spots.{In, spot_in, definition_spot}
 use Rattle.lookups.specs.declared.Source.TheVariants.{File, Site}
-use Rattle.lookups.specs.declared.Spot.TheVariants.{Nowhere, In}
 
 -- [VERSION], major 1, minor 4, revision 0, [DEFINITIONS], a with the value `1 2` among blanks, b 3; some lines end in CR LF, the last in nothing
 unfoldable defined : List ℕ
@@ -127,6 +127,6 @@ again =
     ∷ []
 
 -- a site that repeats a key is at fault, and then nothing is found
-site-at-fault : definition_spot defined again (98 ∷ []) ≡ Nowhere
+site-at-fault : definition_spot defined again (98 ∷ []) ≡ None
 unfolding defined again definition_spot spot_in is_faulty is_big is_at_fault is_row answer_of scanned_of verdict_of verdict_from judged site_fault any_fault site_definitions site_in site_at is_named repeats duplicate_of rows_again next_row rows_of row_at gathered words_of word_at words_in once_of found_names row_names word_of is_same next_line earlier again_line lines_of file_place file_place_from site_place site_place_from site_mark site_line key_of value_of value_part is_definition moved_by is_fault is_defined place_or starts_lf onto whole_lines_of bare_len bare_of is_blank mark_of is_comment is_control any_control breaks_line ends_field fields_of field_at skipped word_len blank_len body_len trimmed trimmed_at same_bytes place_from is_digit all_digits value_from in_range is_integer integer_of word_number_of section_names section_no has_section place_in may_enter enter_of section_at section_step major_word minor_word revision_word version_row edition_of minor_row version_step definition_step lines_step plain_step marked_step step_of
 site-at-fault = refl

@@ -1,4 +1,5 @@
 -- Where something stands that is looked up: it is what is handed back. Assumes nothing.
+use Rattle.std.proofs.Common.{None, Some}
 use Prim.Native.Nat.{ℕ, ◌+◌, ◌-◌, ◌≤◌, ◌<◌}
 use mathlib.Core.Bool.{Bool, true, false, cond}
 use mathlib.Core.List.{List, []}
@@ -18,11 +19,9 @@ use Rattle.stored.specs.Places.{stored_place}
 use Rattle.stored.specs.Shapes.{stored_of}
 use Rattle.stored.proofs.Stored.{stored-holds}
 use Rattle.lookups.specs.Looking.{is_faulty, looked_up, stored_up}
-use Rattle.lookups.specs.Spots.{source_number, spot_number, spot_start, spot_length, source_text, spot_text, spot_in, either_spot, definition_spot, stored_spot}
+use Rattle.lookups.specs.Spots.{Spot, In, source_number, spot_number, spot_start, spot_length, source_text, spot_text, spot_in, either_spot, definition_spot, stored_spot}
 use Rattle.lookups.specs.declared.Source.{Source}
 use Rattle.lookups.specs.declared.Source.TheVariants.{File, Site}
-use Rattle.lookups.specs.declared.Spot.{Spot}
-use Rattle.lookups.specs.declared.Spot.TheVariants.{Nowhere, In}
 
 -- ---- a part as a spot
 module _ (source : Source) (p : Part) where
@@ -30,14 +29,14 @@ module _ (source : Source) (p : Part) where
   unfolding spot_in
   spot-some h = rw (lt-ltb p.start p.stop h)
 
-  pub spot-none : p.stop ≤ p.start → Nowhere ≡ spot_in source p
+  pub spot-none : p.stop ≤ p.start → None ≡ spot_in source p
   unfolding spot_in
   spot-none h = rw (le-ltb p.start p.stop h)
 
 -- ---- a spot within its text, where bytes stand; nowhere exactly if there are none
 abbrev pub spot_room : List ℕ → List ℕ → Spot → ℕ
-spot_room file site Nowhere = 0
-spot_room file site (In source start n) = length (source_text file site source)
+spot_room file site None = 0
+spot_room file site (Some part) = length (source_text file site part.source)
 
 pub record Stands (file site : List ℕ) (s : Spot) (bytes : List ℕ) : Type 0 where
   pub within : spot_start s + spot_length s ≤ spot_room file site s
@@ -55,7 +54,7 @@ holds-length {text} {p} h =
 holds-nothing : {text : List ℕ} {p : Part} {t : List ℕ} → Holds text p t → p.stop ≤ p.start → [] ≡ t
 holds-nothing {p = p} h i = let k : p.stop - p.start ≡ 0 = omega arith in rw k at h.there
 
-nowhere-stands : (file site : List ℕ) → Stands file site Nowhere []
+nowhere-stands : (file site : List ℕ) → Stands file site None []
 unfolding spot_text
 nowhere-stands file site = record { within = omega arith; there = refl; none = refl }
 
@@ -67,7 +66,7 @@ part-stands : (file site : List ℕ) (source : Source) {p : Part} {t : List ℕ}
 unfolding spot_in spot_text
 part-stands file site source {p} {t} h = go (ltb p.start p.stop) refl
   where
-    go : (b : Bool) → ltb p.start p.stop ≡ b → Stands file site (cond b (In source p.start (p.stop - p.start)) Nowhere) t
+    go : (b : Bool) → ltb p.start p.stop ≡ b → Stands file site (cond b (In source p.start (p.stop - p.start)) None) t
     go true e =
         let i = ltb-true p.start p.stop e in
         let n = holds-length h in
@@ -78,15 +77,15 @@ part-stands file site source {p} {t} h = go (ltb p.start p.stop) refl
 -- of two spots the first that is not nowhere, and of two texts the first that is not empty
 either-stands : (file site : List ℕ) (a b : Spot) (x y : List ℕ) → Stands file site a x → Stands file site b y → Stands file site (either_spot a b) (either_of x y)
 unfolding either_of
-either-stands file site Nowhere b x y h i = rw (← h.none) i
-either-stands file site (In source start n) b x y h i = rw (← h.none, ← some-source source) h
+either-stands file site None b x y h i = rw (← h.none) i
+either-stands file site (Some part) b x y h i = rw (← h.none, ← some-source part.source) h
 
 -- ---- the bytes at a spot are what is handed back
 pub definition-stands : (file site key : List ℕ) → Stands file site (definition_spot file site key) (looked_up file site key)
 unfolding definition_spot looked_up definition_of
 definition-stands file site key = go (is_faulty file site)
   where
-    go : (b : Bool) → Stands file site (cond b Nowhere (either_spot (spot_in File (file_place file key)) (spot_in Site (site_place site key)))) (cond b [] (definition_of file site key))
+    go : (b : Bool) → Stands file site (cond b None (either_spot (spot_in File (file_place file key)) (spot_in Site (site_place site key)))) (cond b [] (definition_of file site key))
     go true = nowhere-stands file site
     go false = either-stands file site _ _ _ _ (part-stands file site File (file-holds file key)) (part-stands file site Site (site-holds site key))
 
@@ -94,6 +93,6 @@ pub stored-stands : (file site : List ℕ) (id : ℤ) → Stands file site (stor
 unfolding stored_spot stored_up
 stored-stands file site id = go (is_faulty file site)
   where
-    go : (b : Bool) → Stands file site (cond b Nowhere (spot_in File (stored_place file id))) (cond b [] (stored_of file id))
+    go : (b : Bool) → Stands file site (cond b None (spot_in File (stored_place file id))) (cond b [] (stored_of file id))
     go true = nowhere-stands file site
     go false = part-stands file site File (stored-holds file id)

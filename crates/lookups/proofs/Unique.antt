@@ -4,8 +4,7 @@ use mathlib.Core.List.{List}
 use mathlib.Core.Path.{◌≡◌, sym, ◌∙◌}
 use lib.IntN.{ℤ}
 use Rattle.lookups.specs.Looking.{looked_up, stored_up}
-use Rattle.lookups.specs.Spots.{definition_spot, stored_spot}
-use Rattle.lookups.specs.declared.Spot.{Spot}
+use Rattle.lookups.specs.Spots.{Spot, definition_spot, stored_spot}
 
 module _ (file site key : List ℕ) where
   pub definition-unique : {r r' : List ℕ} → r ≡ looked_up file site key → r' ≡ looked_up file site key → r ≡ r'

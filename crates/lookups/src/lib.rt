@@ -28,46 +28,44 @@ impl Source {
     }
 }
 
-// Where something stands that was looked up: nowhere, or in one of the texts, from a place on and so many bytes long.
+// A part of one of the texts: from a place on, and so many bytes long.
 #[derive(Clone, Copy)]
-pub enum Spot {
-    Nowhere,
-    In {
-        source: Source,
-        start: usize,
-        length: usize,
-    },
+pub struct Stretch {
+    pub source: Source,
+    pub start: usize,
+    pub length: usize,
 }
 
-impl Spot {
-    // The number of the text; 0 for none.
-    pub fn number(self) -> u64
-        ensures { result ≡ spot_number self }
-    {
-        match self {
-            Spot::Nowhere => 0,
-            Spot::In { source, .. } => source.number(),
-        }
-    }
+// Where something stands that was looked up; none is nowhere.
+pub type Spot = Option<Stretch>;
 
-    // Where it starts in that text.
-    pub fn start(self) -> usize
-        ensures { result ≡ spot_start self }
-    {
-        match self {
-            Spot::Nowhere => 0,
-            Spot::In { start, .. } => start,
-        }
+// The number of the text; 0 for none.
+pub fn spot_number(spot: Spot) -> u64
+    ensures { result ≡ spot_number spot }
+{
+    match spot {
+        Some(part) => part.source.number(),
+        None => 0,
     }
+}
 
-    // How many bytes long it is.
-    pub fn length(self) -> usize
-        ensures { result ≡ spot_length self }
-    {
-        match self {
-            Spot::Nowhere => 0,
-            Spot::In { length, .. } => length,
-        }
+// Where it starts in that text.
+pub fn spot_start(spot: Spot) -> usize
+    ensures { result ≡ spot_start spot }
+{
+    match spot {
+        Some(part) => part.start,
+        None => 0,
+    }
+}
+
+// How many bytes long it is.
+pub fn spot_length(spot: Spot) -> usize
+    ensures { result ≡ spot_length spot }
+{
+    match spot {
+        Some(part) => part.length,
+        None => 0,
     }
 }
 
@@ -119,24 +117,14 @@ pub fn stored_lines<'a>(file: &'a [u8], site: &'a [u8], id: i64) -> &'a [u8]
 fn spot_in(source: Source, part: Part) -> Spot
     ensures { result ≡ spot_in source part }
 {
-    if part.start < part.stop {
-        return Spot::In {
-            source: source,
-            start: part.start,
-            length: part.stop - part.start,
-        };
+    if part.stop <= part.start {
+        return None;
     }
-    Spot::Nowhere
-}
-
-// The first of two spots, or the second if the first is nowhere.
-fn either(first: Spot, second: Spot) -> Spot
-    ensures { result ≡ either_spot first second }
-{
-    match first {
-        Spot::Nowhere => second,
-        Spot::In { .. } => first,
-    }
+    Some(Stretch {
+        source,
+        start: part.start,
+        length: part.stop - part.start,
+    })
 }
 
 // Where the value of a key stands: in the file's text if the file defines it, else in the site's; nowhere if neither does, or at a fault.
@@ -144,11 +132,11 @@ pub fn definition_spot(file: &[u8], site: &[u8], key: &[u8]) -> Spot
     ensures { result ≡ definition_spot file.now site.now key.now }
 {
     if is_faulty(file, site) {
-        return Spot::Nowhere;
+        return None;
     }
     let first = spot_in(Source::File, definitions::file_place(file, key));
     let second = spot_in(Source::Site, definitions::site_place(site, key));
-    either(first, second)
+    first.or(second)
 }
 
 // Where the stored lines of a shape stand in the file's text; nowhere if there are none, or at a fault.
@@ -156,7 +144,7 @@ pub fn stored_spot(file: &[u8], site: &[u8], id: i64) -> Spot
     ensures { result ≡ stored_spot file.now site.now id }
 {
     if is_faulty(file, site) {
-        return Spot::Nowhere;
+        return None;
     }
     spot_in(Source::File, stored::stored_place(file, id))
 }

@@ -1,4 +1,5 @@
 -- Laws of what is told: the loop that lays numbers over an answer, the editions, and what each function tells. Assumes nothing.
+use Rattle.std.proofs.Common.{None, Some}
 use Rattle.restater.specs.Outcome.{Restated}
 use Rattle.answers.specs.Outcome.{Answer}
 use Rattle.std.proofs.Common.{None, Some}
@@ -20,8 +21,7 @@ use Rattle.answers.specs.Answers.{answer_number, answer_line, rows_used, samples
 use Rattle.reader.specs.Reading.{Reading, zeros}
 use Rattle.restater.specs.Answers.{restated_number, restated_line, rows_read, samples_read, text_length}
 use Rattle.restater.specs.Restating.{Restating}
-use Rattle.lookups.specs.Spots.{spot_number, spot_start, spot_length, definition_spot, stored_spot}
-use Rattle.lookups.specs.declared.Spot.{Spot}
+use Rattle.lookups.specs.Spots.{Spot, spot_number, spot_start, spot_length, definition_spot, stored_spot}
 use Rattle.pulseq.specs.Exports.{told, read_numbers, ReadTold, edition_of, expand_numbers, expand_samples, expand_answer, ExpandTold, write_numbers, write_output, write_answer, WriteTold, restate_numbers, restate_rows, restate_samples, restate_output, restate_answer, RestateTold, spot_numbers, DefinitionTold, StoredTold}
 
 -- ---- behind the last number there is 0

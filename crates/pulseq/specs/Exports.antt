@@ -1,4 +1,5 @@
 -- What each function of the library writes: the lent tables or output, and the numbers of its answer.
+use Rattle.std.specs.Prelude.{None, Some}
 use Rattle.restater.specs.Outcome.{Restated}
 use Rattle.answers.specs.Outcome.{Answer}
 use Rattle.shape.specs.declared.Edition.{Edition}
@@ -11,8 +12,7 @@ use Rattle.answers.specs.Answers.{answer_number, answer_line, rows_used, samples
 use Rattle.reader.specs.Reading.{zeros, read_of, rows_out, samples_out}
 use Rattle.restater.specs.Answers.{restated_number, restated_line, rows_read, samples_read, text_length}
 use Rattle.restater.specs.Restating.{restate_of, rows_after, samples_after, output_after}
-use Rattle.lookups.specs.Spots.{spot_number, spot_start, spot_length, definition_spot, stored_spot}
-use Rattle.lookups.specs.declared.Spot.{Spot}
+use Rattle.lookups.specs.Spots.{Spot, spot_number, spot_start, spot_length, definition_spot, stored_spot}
 
 -- ---- Numbers told in an answer of n numbers: as many as fit, and zeros behind them
 unfoldable pub told : ℕ → List ℕ → List ℕ

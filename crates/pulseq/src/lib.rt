@@ -147,9 +147,9 @@ pub fn pulseq_definition(file: &[u8], site: &[u8], key: &[u8], answer: &mut [u64
     ensures { DefinitionTold file.now site.now key.now answer.old answer.new }
 {
     let spot = lookups::definition_spot(file, site, key);
-    let source = spot.number();
-    let start = spot.start() as u64;
-    let size = spot.length() as u64;
+    let source = lookups::spot_number(spot);
+    let start = lookups::spot_start(spot) as u64;
+    let size = lookups::spot_length(spot) as u64;
     let numbers = [source, start, size];
     tell(answer, &numbers);
 }
@@ -159,9 +159,9 @@ pub fn pulseq_stored(file: &[u8], site: &[u8], id: i64, answer: &mut [u64])
     ensures { StoredTold file.now site.now id answer.old answer.new }
 {
     let spot = lookups::stored_spot(file, site, id);
-    let found = spot.number();
-    let start = spot.start() as u64;
-    let size = spot.length() as u64;
+    let found = lookups::spot_number(spot);
+    let start = lookups::spot_start(spot) as u64;
+    let size = lookups::spot_length(spot) as u64;
     let numbers = [found, start, size];
     tell(answer, &numbers);
 }

@@ -4,4 +4,4 @@ use Rattle.signed.proofs.Machine.{rd-is}
 use Rattle.pulseq.proofs.pulseq_stored.Goals as goal
 
 pub returns : goal.returns
-returns c = stored-tells c.number-found.ensures c.start-start.ensures c.length-size.ensures c.tell.ensures c.stored_spot-spot.ensures (rd-is c.ranges.id)
+returns c = stored-tells c.spot_number-found.ensures c.spot_start-start.ensures c.spot_length-size.ensures c.tell.ensures c.stored_spot-spot.ensures (rd-is c.ranges.id)
