@@ -24,8 +24,8 @@ use Rattle.shape.specs.declared.Item.{Item}
 use Rattle.shape.specs.declared.Item.TheVariants.{Value as ItemValue, Skipped, Bad as ItemBad}
 use Rattle.columns.specs.declared.Form.{Form}
 use Rattle.rows.specs.declared.Row.{Row}
-use Rattle.heads.specs.declared.Head.{Head as HeadLine}
-use Rattle.heads.specs.declared.Head.TheVariants.{Label, Extension, Bad as HeadBad}
+use Rattle.heads.specs.declared.Label.{Label as LabelLine}
+use Rattle.heads.specs.declared.Extension.{Extension as ExtensionLine}
 use Rattle.places.specs.Places.{went_of, refused_of}
 use Rattle.places.specs.declared.Due.{Due}
 use Rattle.places.specs.declared.Due.TheVariants.{Major, Minor, Revision}
@@ -106,17 +106,15 @@ module _ (st : State) where
     unfolding row_step
     other_row form fields = other-given _
 
-    other-label-row : (increment : Bool) (h : HeadLine) → Other (label_row st n increment h)
+    other-label-row : (increment : Bool) (h : Option LabelLine) → Other (label_row st n increment h)
     unfolding label_row is_defined
-    other-label-row increment (Label id value label) = refl
-    other-label-row increment (Extension type code) = refl
-    other-label-row increment HeadBad = refl
+    other-label-row increment (Some line) = refl
+    other-label-row increment None = refl
 
-    other-extension : (h : HeadLine) → Other (extension_row st n h)
+    other-extension : (h : Option ExtensionLine) → Other (extension_row st n h)
     unfolding extension_row is_defined
-    other-extension (Label id value label) = refl
-    other-extension (Extension type code) = refl
-    other-extension HeadBad = refl
+    other-extension (Some line) = refl
+    other-extension None = refl
 
     other-listed : (fields : List (List ℕ)) (listed : Listed) → Other (listed_step st n fields listed)
     unfolding listed_step label_step is_defined

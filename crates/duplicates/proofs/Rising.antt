@@ -23,8 +23,8 @@ use Rattle.rows.specs.Cells.{row_from, row_is}
 use Rattle.columns.specs.declared.Form.{Form}
 use Rattle.columns.specs.declared.Form.TheVariants.{Entry, Trigger}
 use Rattle.heads.specs.Heads.{label_of, extension_of, word_number_of}
-use Rattle.heads.specs.declared.Head.{Head as HeadLine}
-use Rattle.heads.specs.declared.Head.TheVariants.{Label, Extension, Bad as HeadBad}
+use Rattle.heads.specs.declared.Label.{Label as LabelLine}
+use Rattle.heads.specs.declared.Extension.{Extension as ExtensionLine}
 use Rattle.sections.specs.Sections.{section_no, place_in}
 use Rattle.grammar.specs.Definitions.{is_definition}
 use Rattle.places.specs.Places.{fresh, went_of, refused_of, moved_of}
@@ -273,17 +273,15 @@ module _ (st : State) (n : ℕ) (h : floor st.place n ≤ n) where
         go None = on-refused FieldFault
         go (Some vs) = on-gave st q n h (omega arith) _
 
-    on-label : (increment : Bool) (l : HeadLine) → Onward st n (label_row st n increment l)
+    on-label : (increment : Bool) (l : Option LabelLine) → Onward st n (label_row st n increment l)
     unfolding label_row
-    on-label increment (Label id v k) = on-gave st q n h (omega arith) _
-    on-label increment (Extension type code) = on-refused FieldFault
-    on-label increment HeadBad = on-refused FieldFault
+    on-label increment (Some line) = on-gave st q n h (omega arith) _
+    on-label increment None = on-refused FieldFault
 
-    on-extension : (l : HeadLine) → Onward st n (extension_row st n l)
+    on-extension : (l : Option ExtensionLine) → Onward st n (extension_row st n l)
     unfolding extension_row
-    on-extension (Extension type code) = on-gave (moved_of st (Extensions (listed_of code))) refl n h (omega arith) _
-    on-extension (Label id v k) = on-refused FieldFault
-    on-extension HeadBad = on-refused FieldFault
+    on-extension (Some line) = on-gave (moved_of st (Extensions (listed_of line.code))) refl n h (omega arith) _
+    on-extension None = on-refused FieldFault
 
     on-listed : (fields : List (List ℕ)) (listed : Listed) → Onward st n (listed_step st n fields listed)
     unfolding listed_step label_step

@@ -25,8 +25,8 @@ use Rattle.columns.specs.declared.Form.TheVariants.{Block, Rf, Gradient, Trap, A
 use Rattle.rows.proofs.Ranges.{row-in-range}
 use Rattle.columns.proofs.Widths.{row_fits}
 use Rattle.heads.specs.Heads.{label_of, extension_of, word_number_of}
-use Rattle.heads.specs.declared.Head.{Head as HeadLine}
-use Rattle.heads.specs.declared.Head.TheVariants.{Label, Extension, Bad as HeadBad}
+use Rattle.heads.specs.declared.Label.{Label as LabelLine}
+use Rattle.heads.specs.declared.Extension.{Extension as ExtensionLine}
 use Rattle.heads.proofs.Ranges.{label-range, extension-range, word-range}
 use Rattle.sections.specs.Sections.{section_no, place_in}
 use Rattle.grammar.specs.Definitions.{is_definition}
@@ -311,25 +311,23 @@ module _ (st : State) where
           flag true = omega arith
           flag false = omega arith
 
-          go : (l : HeadLine) → label_of st.edition increment fields ≡ l → Fine st (label_row st n increment l)
-          go (Label id v k) e =
-              let r = label-range st.edition increment fields id v k e in
-              fine-gave p st h refl p (omega arith) n _ (label id (cond increment 1 0) k v r.0 r.1 (flag increment) r.2 r.3 r.4)
-              (stack-other st refl n _ (kind-shape 10 (pos id ∷ pos (cond increment 1 0) ∷ v ∷ pos k ∷ []) (omega arith)))
-          go (Extension type code) e = fine-refused FieldFault
-          go HeadBad e = fine-refused FieldFault
+          go : (l : Option LabelLine) → label_of st.edition increment fields ≡ l → Fine st (label_row st n increment l)
+          go (Some line) e =
+              let r = label-range st.edition increment fields line.id line.value line.label e in
+              fine-gave p st h refl p (omega arith) n _ (label line.id (cond increment 1 0) line.label line.value r.0 r.1 (flag increment) r.2 r.3 r.4)
+              (stack-other st refl n _ (kind-shape 10 (pos line.id ∷ pos (cond increment 1 0) ∷ line.value ∷ pos line.label ∷ []) (omega arith)))
+          go None e = fine-refused FieldFault
 
       fine-extension : (n : ℕ) (fields : List (List ℕ)) → Fine st (extension_step st n fields)
       unfolding extension_step extension_row is_past
       fine-extension n fields = go (extension_of fields) refl
         where
-          go : (l : HeadLine) → extension_of fields ≡ l → Fine st (extension_row st n l)
-          go (Extension type code) e =
-              let r = extension-range fields type code e in
-              fine-gave p (moved_of st (Extensions (listed_of code))) tt refl refl (omega arith) n _ (extension type code r.0 r.1 r.2)
-              (stack-other (moved_of st (Extensions (listed_of code))) refl n _ (kind-shape 8 (pos type ∷ pos code ∷ []) (omega arith)))
-          go (Label id v k) e = fine-refused FieldFault
-          go HeadBad e = fine-refused FieldFault
+          go : (l : Option ExtensionLine) → extension_of fields ≡ l → Fine st (extension_row st n l)
+          go (Some line) e =
+              let r = extension-range fields line.number line.code e in
+              fine-gave p (moved_of st (Extensions (listed_of line.code))) tt refl refl (omega arith) n _ (extension line.number line.code r.0 r.1 r.2)
+              (stack-other (moved_of st (Extensions (listed_of line.code))) refl n _ (kind-shape 8 (pos line.number ∷ pos line.code ∷ []) (omega arith)))
+          go None e = fine-refused FieldFault
 
       fine-listed : (n : ℕ) (fields : List (List ℕ)) (listed : Listed) → Fine st (listed_step st n fields listed)
       unfolding listed_step

@@ -20,8 +20,9 @@ use Rattle.rows.specs.Cells.{row_from, row_is}
 use Rattle.columns.specs.declared.Form.{Form}
 use Rattle.rows.specs.declared.Row.{Row}
 use Rattle.heads.specs.Heads.{label_of, extension_of, extension_word, word_number_of}
-use Rattle.heads.specs.declared.Head.{Head as HeadLine}
-use Rattle.heads.specs.declared.Head.TheVariants.{Label, Extension, Bad as HeadBad}
+use Rattle.heads.specs.Heads.{Label, Extension}
+use Rattle.heads.specs.declared.Label.{Label as LabelLine}
+use Rattle.heads.specs.declared.Extension.{Extension as ExtensionLine}
 use Rattle.heads.proofs.Ranges.{label-range, extension-range, word-range}
 use Rattle.grammar.specs.Definitions.{value_of, is_definition}
 use Rattle.places.specs.Places.{went_of, refused_of, moved_of}
@@ -63,7 +64,7 @@ held n z h e = e ∙ held-size false n h
 abbrev pub four : ℤ → ℤ → ℤ → ℤ → ℤ → List ℤ
 four kind a b c d = kind ∷ a ∷ b ∷ c ∷ d ∷ replicate 7 (pos 0)
 
-module _ (st : State) (n : ℕ) (increment : Bool) (fields : List (List ℕ)) (h : HeadLine) (p : h ≡ label_of st.edition increment fields) where
+module _ (st : State) (n : ℕ) (increment : Bool) (fields : List (List ℕ)) (h : Option LabelLine) (p : h ≡ label_of st.edition increment fields) where
   pub label-gave : (id : ℕ) (v : ℤ) (label : ℕ) → h ≡ Label id v label → (a b y d : ℤ) → a ≡ signed_of false (min id largest) → b ≡ pos (cond increment 1 0) → y ≡ v
       → d ≡ signed_of false (min label largest) → gave_of st n (four (pos 10) a b y d) ≡ label_step st n increment fields
   unfolding label_step label_row padded
@@ -71,15 +72,11 @@ module _ (st : State) (n : ℕ) (increment : Bool) (fields : List (List ℕ)) (h
       let r = label-range st.edition increment fields id v label (sym p ∙ e) in
       rw (← p, e, held id a (omega (arith, r.1)) i, j, k, held label d (omega (arith, r.4)) l)
 
-  pub label-extension : (type code : ℕ) → h ≡ Extension type code → refused_of st Field ≡ label_step st n increment fields
-  unfolding label_step label_row
-  label-extension type code e = rw (← p, e)
-
-  pub label-bad : h ≡ HeadBad → refused_of st Field ≡ label_step st n increment fields
+  pub label-bad : h ≡ None → refused_of st Field ≡ label_step st n increment fields
   unfolding label_step label_row
   label-bad e = rw (← p, e)
 
-module _ (st : State) (n : ℕ) (fields : List (List ℕ)) (h : HeadLine) (p : h ≡ extension_of fields) where
+module _ (st : State) (n : ℕ) (fields : List (List ℕ)) (h : Option ExtensionLine) (p : h ≡ extension_of fields) where
   pub extension-gave : (type code : ℕ) → h ≡ Extension type code → (next : State) → next ≡ moved_of st (Extensions (listed_of code)) → (a b : ℤ)
       → a ≡ signed_of false (min type largest) → b ≡ signed_of false (min code largest) → gave_of next n (four (pos 8) a b (pos 0) (pos 0)) ≡ extension_step st n fields
   unfolding extension_step extension_row padded
@@ -87,11 +84,7 @@ module _ (st : State) (n : ℕ) (fields : List (List ℕ)) (h : HeadLine) (p : h
       let r = extension-range fields type code (sym p ∙ e) in
       rw (← p, e, q, held type a (omega (arith, r.1)) i, held code b (omega (arith, r.2)) j)
 
-  pub extension-label : (id : ℕ) (v : ℤ) (label : ℕ) → h ≡ Label id v label → refused_of st Field ≡ extension_step st n fields
-  unfolding extension_step extension_row
-  extension-label id v label e = rw (← p, e)
-
-  pub extension-bad : h ≡ HeadBad → refused_of st Field ≡ extension_step st n fields
+  pub extension-bad : h ≡ None → refused_of st Field ≡ extension_step st n fields
   unfolding extension_step extension_row
   extension-bad e = rw (← p, e)
 

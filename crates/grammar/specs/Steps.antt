@@ -19,8 +19,8 @@ use Rattle.columns.specs.declared.Form.TheVariants.{Entry, Trigger}
 use Rattle.columns.specs.declared.Kind.TheVariants.{Count}
 use Rattle.rows.specs.declared.Row.{Row}
 use Rattle.heads.specs.Heads.{label_of, extension_of, extension_word, word_number_of}
-use Rattle.heads.specs.declared.Head.{Head as HeadLine}
-use Rattle.heads.specs.declared.Head.TheVariants.{Label, Extension, Bad as HeadBad}
+use Rattle.heads.specs.declared.Label.{Label as LabelLine}
+use Rattle.heads.specs.declared.Extension.{Extension as ExtensionLine}
 use Rattle.grammar.specs.Definitions.{is_definition}
 use Rattle.grammar.specs.declared.Read.{Read}
 use Rattle.places.specs.declared.Lines.{Lines}
@@ -67,10 +67,9 @@ row_step st n form fields = given_row st n (row_is form (row_from (columns_of st
 
 -- ---- "EXTENSIONS id, type, ref, next, until a line `extension NAME type`, whose rows follow." "8 extension (type; 0 unknown, 1 TRIGGERS, 2
 -- LABELSET, 3 LABELINC)", "10 label (id, 0 set or 1 increment, value, label 1 to 13 as listed)"
-unfoldable pub label_row : State → ℕ → Bool → HeadLine → Stepped
-label_row st n increment (Label id value label) = gave_of st n (padded label_kind (pos id ∷ pos (cond increment 1 0) ∷ value ∷ pos label ∷ []))
-label_row st n increment (Extension type code) = refused_of st FieldFault
-label_row st n increment HeadBad = refused_of st FieldFault
+unfoldable pub label_row : State → ℕ → Bool → (Option LabelLine) → Stepped
+label_row st n increment (Some line) = gave_of st n (padded label_kind (pos line.id ∷ pos (cond increment 1 0) ∷ line.value ∷ pos line.label ∷ []))
+label_row st n increment None = refused_of st FieldFault
 
 unfoldable pub label_step : State → ℕ → Bool → List (List ℕ) → Stepped
 label_step st n increment fields = label_row st n increment (label_of st.edition increment fields)
@@ -79,10 +78,9 @@ label_step st n increment fields = label_row st n increment (label_of st.edition
 unfoldable pub listed_of : ℕ → Listed
 listed_of code = cond (eqb code 1) Triggers (cond (eqb code 2) (Labels false) (cond (eqb code 3) (Labels true) Unknown))
 
-unfoldable pub extension_row : State → ℕ → HeadLine → Stepped
-extension_row st n (Extension type code) = gave_of (moved_of st (Extensions (listed_of code))) n (padded extension_kind (pos type ∷ pos code ∷ []))
-extension_row st n (Label id value label) = refused_of st FieldFault
-extension_row st n HeadBad = refused_of st FieldFault
+unfoldable pub extension_row : State → ℕ → (Option ExtensionLine) → Stepped
+extension_row st n (Some line) = gave_of (moved_of st (Extensions (listed_of line.code))) n (padded extension_kind (pos line.number ∷ pos line.code ∷ []))
+extension_row st n None = refused_of st FieldFault
 
 unfoldable pub extension_step : State → ℕ → List (List ℕ) → Stepped
 extension_step st n fields = extension_row st n (extension_of fields)

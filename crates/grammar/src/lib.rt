@@ -10,7 +10,6 @@ ghost use Rattle.text.specs.Marks.{any_control, breaks_line, mark_of};
 
 use columns::Form;
 use fields::Part;
-use heads::Head;
 use places::{Fault, Found, Lines, Listed, Place, State, Stepped};
 use shape::Item;
 use text::Mark;
@@ -123,16 +122,12 @@ fn gave_four(next: State, n: usize, kind: i64, a: i64, b: i64, c: i64, d: i64) -
 fn label_step(st: State, n: usize, increment: bool, line: &[u8]) -> Stepped
     ensures { result ≡ label_step st n increment (fields_of line.now) }
 {
-    let edition = st.edition;
-    match heads::read_label(edition, increment, line) {
-        Head::Label(id, value, label) => {
-            let number = signed::with_sign(false, id);
-            let which = signed::with_sign(false, label as u64);
-            gave_four(st, n, 10, number, increment as i64, value, which)
-        }
-        Head::Extension(_, _) => places::refused(st, Fault::Field),
-        Head::Bad => places::refused(st, Fault::Field),
-    }
+    let Some(label) = heads::read_label(st.edition, increment, line) else {
+        return places::refused(st, Fault::Field);
+    };
+    let number = signed::with_sign(false, label.id);
+    let which = signed::with_sign(false, label.label as u64);
+    gave_four(st, n, 10, number, increment as i64, label.value, which)
 }
 
 // What the lines behind an `extension` line are, by the code of its name.
@@ -151,16 +146,13 @@ fn listed_of(code: usize) -> Listed
 fn extension_step(st: State, n: usize, line: &[u8]) -> Stepped
     ensures { result ≡ extension_step st n (fields_of line.now) }
 {
-    match heads::read_extension(line) {
-        Head::Extension(number, code) => {
-            let next = places::moved(st, Place::Extensions(listed_of(code)));
-            let kind = signed::with_sign(false, number);
-            let which = signed::with_sign(false, code as u64);
-            gave_four(next, n, 8, kind, which, 0, 0)
-        }
-        Head::Label(_, _, _) => places::refused(st, Fault::Field),
-        Head::Bad => places::refused(st, Fault::Field),
-    }
+    let Some(extension) = heads::read_extension(line) else {
+        return places::refused(st, Fault::Field);
+    };
+    let next = places::moved(st, Place::Extensions(listed_of(extension.code)));
+    let kind = signed::with_sign(false, extension.number);
+    let which = signed::with_sign(false, extension.code as u64);
+    gave_four(next, n, 8, kind, which, 0, 0)
 }
 
 // A row in EXTENSIONS: an entry, or a row of the extension that was named last; those of an unknown one are skipped.

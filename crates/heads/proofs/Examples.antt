@@ -13,7 +13,7 @@ use Rattle.numeral.specs.Digits.{is_digit, all_digits, value_from, is_minus}
 use Rattle.numeral.specs.Integer.{in_range, is_integer, integer_of, signed_as, counter_of}
 use Rattle.shape.specs.declared.Edition.TheVariants.{V13, V14}
 use Rattle.heads.specs.Heads.{label_names, is_v14, set_value, increment_value, label_value, label_head, label_fields, label_of, is_name_byte, all_name_bytes, is_name, extension_names, extension_word, extension_head, extension_fields, extension_of, word_number_of}
-use Rattle.heads.specs.declared.Head.TheVariants.{Label, Extension, Bad}
+use Rattle.heads.specs.Heads.{Label, Extension}
 
 -- 5 -3 LIN, incremented
 counter : label_of V13 true (fields_of (53 ∷ 32 ∷ 45 ∷ 51 ∷ 32 ∷ 76 ∷ 73 ∷ 78 ∷ [])) ≡ Label 5 (negsuc 2) 1
@@ -25,11 +25,11 @@ once : label_of V14 false (fields_of (53 ∷ 32 ∷ 49 ∷ 32 ∷ 79 ∷ 78 ∷ 
 unfolding onto is_blank ends_field fields_of same_bytes place_from signed_of is_digit all_digits value_from is_minus in_range is_integer integer_of signed_as label_names is_v14 set_value label_value label_head label_fields label_of
 once = refl
 
-once-early : label_of V13 false (fields_of (53 ∷ 32 ∷ 49 ∷ 32 ∷ 79 ∷ 78 ∷ 67 ∷ 69 ∷ [])) ≡ Bad
+once-early : label_of V13 false (fields_of (53 ∷ 32 ∷ 49 ∷ 32 ∷ 79 ∷ 78 ∷ 67 ∷ 69 ∷ [])) ≡ None
 unfolding onto is_blank ends_field fields_of same_bytes place_from is_digit all_digits value_from in_range is_integer integer_of label_names is_v14 set_value label_value label_head label_fields label_of
 once-early = refl
 
-once-incremented : label_of V14 true (fields_of (53 ∷ 32 ∷ 49 ∷ 32 ∷ 79 ∷ 78 ∷ 67 ∷ 69 ∷ [])) ≡ Bad
+once-incremented : label_of V14 true (fields_of (53 ∷ 32 ∷ 49 ∷ 32 ∷ 79 ∷ 78 ∷ 67 ∷ 69 ∷ [])) ≡ None
 unfolding onto is_blank ends_field fields_of same_bytes place_from is_digit all_digits value_from in_range is_integer integer_of label_names increment_value label_value label_head label_fields label_of
 once-incremented = refl
 

@@ -14,7 +14,7 @@ use Rattle.numeral.specs.Integer.{largest_id, integer_of, signed_as, counter_of}
 use Rattle.shape.specs.declared.Edition.{Edition}
 use Rattle.shape.specs.declared.Edition.TheVariants.{V13, V14}
 use Rattle.heads.specs.Heads.{label_names, is_v14, set_value, increment_value, label_value, label_head, label_fields, label_of, is_name, extension_names, extension_word, extension_head, extension_fields, extension_of, word_number_of}
-use Rattle.heads.specs.declared.Head.TheVariants.{Label, Extension, Bad}
+use Rattle.heads.specs.Heads.{Label, Extension}
 
 -- ---- a label's value
 either : {A : Type 0} (b : Bool) {x : A} → x ≡ cond b x x
@@ -56,12 +56,12 @@ module _ (edition : Edition) (increment : Bool) (label : ℕ) (field : List ℕ)
 
 -- ---- a label: n is what the ID was read as, v what the value was, label the name's place
 module _ (edition : Edition) (increment : Bool) (id value name : List ℕ) (n : (Option ℕ)) (p : n ≡ integer_of 1 largest_id id) where
-  pub label-no-id : n ≡ None → Bad ≡ label_fields edition increment id value name
+  pub label-no-id : n ≡ None → None ≡ label_fields edition increment id value name
   unfolding label_fields label_head
   label-no-id e = rw (← p, e)
 
   module _ (label : ℕ) (k : label ≡ place_of label_names name) (v : (Option ℤ)) (q : v ≡ label_value edition increment label value) (i : ℕ) (e : n ≡ Some i) where
-    pub label-no-value : v ≡ None → Bad ≡ label_fields edition increment id value name
+    pub label-no-value : v ≡ None → None ≡ label_fields edition increment id value name
     unfolding label_fields label_head
     label-no-value f = rw (← k, ← p, ← q, e, f)
 
@@ -71,17 +71,17 @@ module _ (edition : Edition) (increment : Bool) (id value name : List ℕ) (n : 
 
 -- ---- an extension
 module _ (word name number : List ℕ) where
-  pub extension-other-word : same_bytes word extension_word ≡ false → Bad ≡ extension_fields word name number
+  pub extension-other-word : same_bytes word extension_word ≡ false → None ≡ extension_fields word name number
   unfolding extension_fields
   extension-other-word e = rw e
 
   module _ (e : same_bytes word extension_word ≡ true) where
-    pub extension-unnamed : is_name name ≡ false → Bad ≡ extension_fields word name number
+    pub extension-unnamed : is_name name ≡ false → None ≡ extension_fields word name number
     unfolding extension_fields
     extension-unnamed f = rw (e, f)
 
     module _ (f : is_name name ≡ true) (n : (Option ℕ)) (p : n ≡ integer_of 1 largest_id number) where
-      pub extension-no-number : n ≡ None → Bad ≡ extension_fields word name number
+      pub extension-no-number : n ≡ None → None ≡ extension_fields word name number
       unfolding extension_fields extension_head
       extension-no-number g = rw (e, f, ← p, g)
 
@@ -100,7 +100,7 @@ module _ (fs : List (List ℕ)) (n : length fs ≡ 3) (f g h : List ℕ) (p : f 
   unfolding extension_of
   extension-three = rw (p, q, r) (ap extension_of (sym (three-of [] fs n)))
 
-pub label-other : (edition : Edition) (increment : Bool) (fs : List (List ℕ)) → (length fs ≡ 3 → ⊥) → Bad ≡ label_of edition increment fs
+pub label-other : (edition : Edition) (increment : Bool) (fs : List (List ℕ)) → (length fs ≡ 3 → ⊥) → None ≡ label_of edition increment fs
 unfolding label_of
 label-other edition increment [] n = refl
 label-other edition increment (f ∷ []) n = refl
@@ -108,7 +108,7 @@ label-other edition increment (f ∷ g ∷ []) n = refl
 label-other edition increment (f ∷ g ∷ h ∷ []) n = absurd (n refl)
 label-other edition increment (f ∷ g ∷ h ∷ k ∷ fs) n = refl
 
-pub extension-other : (fs : List (List ℕ)) → (length fs ≡ 3 → ⊥) → Bad ≡ extension_of fs
+pub extension-other : (fs : List (List ℕ)) → (length fs ≡ 3 → ⊥) → None ≡ extension_of fs
 unfolding extension_of
 extension-other [] n = refl
 extension-other (f ∷ []) n = refl

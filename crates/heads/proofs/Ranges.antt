@@ -3,7 +3,7 @@ use Rattle.std.proofs.Common.{None, Option, Some}
 use Prim.Native.Nat.{ℕ, ◌≤◌}
 use mathlib.Core.Bool.{Bool, true, false, cond, ◌&&◌}
 use mathlib.Core.List.{List, [], ◌∷◌}
-use mathlib.Core.Path.{◌≡◌, refl, ◌∙◌}
+use mathlib.Core.Path.{◌≡◌, refl, ◌∙◌, ap}
 use native.Mathlib.Omega.{arith}
 use lib.Dec.{leb, eqb}
 use lib.IntN.{ℤ, nat_abs}
@@ -17,7 +17,10 @@ use Rattle.numeral.specs.Integer.{largest_id, integer_of, signed_as, counter_of}
 use Rattle.numeral.proofs.Integer.{integer-inv}
 use Rattle.shape.specs.declared.Edition.{Edition}
 use Rattle.heads.specs.Heads.{label_names, is_v14, set_value, increment_value, label_value, label_head, label_fields, label_of, is_name, extension_names, extension_word, extension_head, extension_fields, extension_of, word_number_of}
-use Rattle.heads.specs.declared.Head.TheVariants.{Label, Extension, Bad}
+use Rattle.heads.specs.Heads.{Label, Extension}
+use Rattle.heads.specs.declared.Label.{Label as LabelLine}
+use Rattle.heads.specs.declared.Extension.{Extension as ExtensionLine}
+use Rattle.std.proofs.lemmas.Option.{same_Some}
 use Rattle.heads.proofs.Forms.{value-unknown}
 
 -- ---- a name's place in its list
@@ -56,10 +59,10 @@ value-small edition increment label field =
     (small-cond (eqb label 13 && is_v14 edition) _ _ (small-as false largest_id field (omega arith)) tt)))
 
 -- ---- what was read, by the answers that it was read from
-not-label : {i : ℕ} {z : ℤ} {m : ℕ} → Bad ≡ Label i z m → ⊥
+not-label : {i : ℕ} {z : ℤ} {m : ℕ} → None ≡ Label i z m → ⊥
 not-label e = let z : ◌≡◌ {A = ℕ} 0 1 = cc in omega arith
 
-not-extension : {type code : ℕ} → Bad ≡ Extension type code → ⊥
+not-extension : {type code : ℕ} → None ≡ Extension type code → ⊥
 not-extension e = let z : ◌≡◌ {A = ℕ} 0 1 = cc in omega arith
 
 record LabelFrom (n : (Option ℕ)) (v : (Option ℤ)) (k i : ℕ) (z : ℤ) (m : ℕ) : Type 0 where
@@ -69,13 +72,17 @@ record LabelFrom (n : (Option ℕ)) (v : (Option ℤ)) (k i : ℕ) (z : ℤ) (m 
 
 label-from : (n : (Option ℕ)) (v : (Option ℤ)) (k i : ℕ) (z : ℤ) (m : ℕ) → label_head n v k ≡ Label i z m → LabelFrom n v k i z m
 unfolding label_head
-label-from (Some j) (Some y) k i z m e = record { id = cc; value = cc; place = cc }
+label-from (Some j) (Some y) k i z m e =
+    let same = same_Some _ _ e in
+    record { id = ap (λ (l : LabelLine). Some l.id) same; value = ap (λ (l : LabelLine). Some l.value) same; place = ap (λ (l : LabelLine). l.label) same }
 label-from (Some j) None k i z m e = absurd (not-label e)
 label-from None v k i z m e = absurd (not-label e)
 
 extension-from : (n : (Option ℕ)) (k type code : ℕ) → extension_head n k ≡ Extension type code → (n ≡ Some type) × (k ≡ code)
 unfolding extension_head
-extension-from (Some j) k type code e = (cc, cc)
+extension-from (Some j) k type code e =
+    let same = same_Some _ _ e in
+    (ap (λ (l : ExtensionLine). Some l.number) same, ap (λ (l : ExtensionLine). l.code) same)
 extension-from None k type code e = absurd (not-extension e)
 
 -- ---- the ranges

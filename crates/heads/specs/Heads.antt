@@ -4,8 +4,8 @@ use Rattle.text.specs.Words.{same_bytes, place_of}
 use Rattle.numeral.specs.Integer.{largest_id, integer_of, signed_as, counter_of}
 use Rattle.shape.specs.declared.Edition.{Edition}
 use Rattle.shape.specs.declared.Edition.TheVariants.{V13, V14}
-use Rattle.heads.specs.declared.Head.{Head}
-use Rattle.heads.specs.declared.Head.TheVariants.{Label, Extension, Bad}
+use Rattle.heads.specs.declared.Label.{Label as LabelLine}
+use Rattle.heads.specs.declared.Extension.{Extension as ExtensionLine}
 
 -- ---- "LABELSET and LABELINC: id, value, label; LIN PAR SLC SEG REP AVG SET ECO PHS are counters from -M to M; NAV REV SMS are 0 or 1, set only;
 -- ONCE, set only and 1.4 only, 0 to M. Other labels are FIELD." A label's number is its place in this list.
@@ -44,22 +44,26 @@ increment_value label field = cond (leb 1 label && leb label 9) (counter_of larg
 unfoldable pub label_value : Edition → Bool → ℕ → List ℕ → Option ℤ
 label_value edition increment label field = cond increment (increment_value label field) (set_value edition label field)
 
--- "10 label (id, 0 set or 1 increment, value, label 1 to 13 as listed)": the id, the value and the label of a line
-unfoldable pub label_head : (Option ℕ) → (Option ℤ) → ℕ → Head
-label_head (Some id) (Some v) label = Label id v label
-label_head (Some id) None label = Bad
-label_head None v label = Bad
+-- what a label's line holds
+abbrev pub Label : ℕ → ℤ → ℕ → Option LabelLine
+Label id value label = Some (record { id = id; value = value; label = label })
 
-unfoldable pub label_fields : Edition → Bool → List ℕ → List ℕ → List ℕ → Head
+-- "10 label (id, 0 set or 1 increment, value, label 1 to 13 as listed)": the id, the value and the label of a line
+unfoldable pub label_head : (Option ℕ) → (Option ℤ) → ℕ → Option LabelLine
+label_head (Some id) (Some v) label = Label id v label
+label_head (Some id) None label = None
+label_head None v label = None
+
+unfoldable pub label_fields : Edition → Bool → List ℕ → List ℕ → List ℕ → Option LabelLine
 label_fields edition increment id value name =
     label_head (integer_of 1 largest_id id) (label_value edition increment (place_of label_names name) value) (place_of label_names name)
 
-unfoldable pub label_of : Edition → Bool → List (List ℕ) → Head
+unfoldable pub label_of : Edition → Bool → List (List ℕ) → Option LabelLine
 label_of edition increment (f ∷ g ∷ h ∷ []) = label_fields edition increment f g h
-label_of edition increment [] = Bad
-label_of edition increment (f ∷ []) = Bad
-label_of edition increment (f ∷ g ∷ []) = Bad
-label_of edition increment (f ∷ g ∷ h ∷ k ∷ fs) = Bad
+label_of edition increment [] = None
+label_of edition increment (f ∷ []) = None
+label_of edition increment (f ∷ g ∷ []) = None
+label_of edition increment (f ∷ g ∷ h ∷ k ∷ fs) = None
 
 -- ---- "a line `extension NAME type` (NAME 1 to 32 letters, digits, underscores)". "8 extension (type; 0 unknown, 1 TRIGGERS, 2 LABELSET, 3
 -- LABELINC)"
@@ -83,20 +87,24 @@ extension_names =
 unfoldable pub extension_word : List ℕ
 extension_word = 101 ∷ 120 ∷ 116 ∷ 101 ∷ 110 ∷ 115 ∷ 105 ∷ 111 ∷ 110 ∷ []
 
-unfoldable pub extension_head : (Option ℕ) → ℕ → Head
+-- what an `extension` line holds
+abbrev pub Extension : ℕ → ℕ → Option ExtensionLine
+Extension number code = Some (record { number = number; code = code })
+
+unfoldable pub extension_head : (Option ℕ) → ℕ → Option ExtensionLine
 extension_head (Some type) code = Extension type code
-extension_head None code = Bad
+extension_head None code = None
 
-unfoldable pub extension_fields : List ℕ → List ℕ → List ℕ → Head
+unfoldable pub extension_fields : List ℕ → List ℕ → List ℕ → Option ExtensionLine
 extension_fields word name number =
-    cond (same_bytes word extension_word && is_name name) (extension_head (integer_of 1 largest_id number) (place_of extension_names name)) Bad
+    cond (same_bytes word extension_word && is_name name) (extension_head (integer_of 1 largest_id number) (place_of extension_names name)) None
 
-unfoldable pub extension_of : List (List ℕ) → Head
+unfoldable pub extension_of : List (List ℕ) → Option ExtensionLine
 extension_of (f ∷ g ∷ h ∷ []) = extension_fields f g h
-extension_of [] = Bad
-extension_of (f ∷ []) = Bad
-extension_of (f ∷ g ∷ []) = Bad
-extension_of (f ∷ g ∷ h ∷ k ∷ fs) = Bad
+extension_of [] = None
+extension_of (f ∷ []) = None
+extension_of (f ∷ g ∷ []) = None
+extension_of (f ∷ g ∷ h ∷ k ∷ fs) = None
 
 -- ---- "A shape is `shape_id N`, the next noncomment line `num_samples N`": a word and a number in a range
 unfoldable pub word_number_of : List ℕ → ℕ → ℕ → List (List ℕ) → Option ℕ

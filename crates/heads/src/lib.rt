@@ -12,12 +12,19 @@ use shape::Edition;
 // The largest ID, type and counter.
 const LARGEST_ID: u64 = 2147483647;
 
-// What such a line holds: a label's ID, value and number; or an extension's type and the code of its name.
+// What a label's line holds: its ID, its value, and the place of its name in the list.
 #[derive(Clone, Copy)]
-pub enum Head {
-    Label(u64, i64, usize),
-    Extension(u64, usize),
-    Bad,
+pub struct Label {
+    pub id: u64,
+    pub value: i64,
+    pub label: usize,
+}
+
+// What an `extension` line holds: its type, and the code of its name.
+#[derive(Clone, Copy)]
+pub struct Extension {
+    pub number: u64,
+    pub code: usize,
 }
 
 // A number with no sign, from 0 to `most`.
@@ -66,25 +73,27 @@ fn label_place(name: &[u8]) -> usize
 }
 
 // The three fields of a label's line.
-fn label_in(edition: Edition, increment: bool, id: &[u8], value: &[u8], name: &[u8]) -> Head
+fn label_in(
+    edition: Edition,
+    increment: bool,
+    id: &[u8],
+    value: &[u8],
+    name: &[u8],
+) -> Option<Label>
     ensures { result ≡ label_fields edition increment id.now value.now name.now }
 {
     let label = label_place(name);
-    match numeral::read_integer(id, 1, LARGEST_ID) {
-        Some(n) => match label_value(edition, increment, label, value) {
-            Some(v) => Head::Label(n, v, label),
-            None => Head::Bad,
-        },
-        None => Head::Bad,
-    }
+    let id = numeral::read_integer(id, 1, LARGEST_ID)?;
+    let value = label_value(edition, increment, label, value)?;
+    Some(Label { id, value, label })
 }
 
 // A line of LABELSET, or of LABELINC where `increment` says so: id, value, label.
-pub fn read_label(edition: Edition, increment: bool, line: &[u8]) -> Head
+pub fn read_label(edition: Edition, increment: bool, line: &[u8]) -> Option<Label>
     ensures { result ≡ label_of edition increment (fields_of line.now) }
 {
     if fields::field_count(line) != 3 {
-        return Head::Bad;
+        return None;
     }
     label_in(
         edition,
@@ -148,27 +157,28 @@ fn extension_code(name: &[u8]) -> usize
 }
 
 // The three fields of an `extension` line.
-fn extension_in(word: &[u8], name: &[u8], number: &[u8]) -> Head
+fn extension_in(word: &[u8], name: &[u8], number: &[u8]) -> Option<Extension>
     ensures { result ≡ extension_fields word.now name.now number.now }
 {
     if !text::same(word, b"extension") {
-        return Head::Bad;
+        return None;
     }
     if !is_name(name) {
-        return Head::Bad;
+        return None;
     }
-    match numeral::read_integer(number, 1, LARGEST_ID) {
-        Some(n) => Head::Extension(n, extension_code(name)),
-        None => Head::Bad,
-    }
+    let number = numeral::read_integer(number, 1, LARGEST_ID)?;
+    Some(Extension {
+        number,
+        code: extension_code(name),
+    })
 }
 
 // A line `extension NAME type`.
-pub fn read_extension(line: &[u8]) -> Head
+pub fn read_extension(line: &[u8]) -> Option<Extension>
     ensures { result ≡ extension_of (fields_of line.now) }
 {
     if fields::field_count(line) != 3 {
-        return Head::Bad;
+        return None;
     }
     extension_in(
         fields::field(line, 0),

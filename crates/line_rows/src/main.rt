@@ -2,7 +2,6 @@
 #![tactic(auto)]
 
 use columns::Form;
-use heads::Head;
 use shape::Edition;
 
 // The descriptors of standard input and output.
@@ -51,36 +50,30 @@ fn show_row(edition: Edition, name: &[u8], form: Form, line: &[u8]) {
 
 // Writes a label, if the line is one.
 fn show_label(edition: Edition, name: &[u8], increment: bool, line: &[u8]) {
-    match heads::read_label(edition, increment, line) {
-        Head::Label(id, value, label) => {
-            let mut out = [0u8; 1024];
-            let a = put_name(&mut out, name);
-            let b = output::put_byte(&mut out, a, 32);
-            let c = print::put_integer(&mut out, b, id);
-            let d = put_numbers(&mut out, c, &[value]);
-            let e = output::put_byte(&mut out, d, 32);
-            let f = print::put_integer(&mut out, e, label as u64);
-            finish(&mut out, f);
-        }
-        Head::Extension(_, _) => {}
-        Head::Bad => {}
-    }
+    let Some(read) = heads::read_label(edition, increment, line) else {
+        return;
+    };
+    let mut out = [0u8; 1024];
+    let a = put_name(&mut out, name);
+    let b = output::put_byte(&mut out, a, b' ');
+    let c = print::put_integer(&mut out, b, read.id);
+    let d = put_numbers(&mut out, c, &[read.value]);
+    let e = output::put_byte(&mut out, d, b' ');
+    let f = print::put_integer(&mut out, e, read.label as u64);
+    finish(&mut out, f);
 }
 
 // Writes the type and the code of an `extension` line, if the line is one.
 fn show_extension(line: &[u8]) {
-    match heads::read_extension(line) {
-        Head::Extension(number, code) => {
-            let mut out = [0u8; 1024];
-            let a = put_name(&mut out, b"extension ");
-            let b = print::put_integer(&mut out, a, number);
-            let c = output::put_byte(&mut out, b, 32);
-            let d = print::put_integer(&mut out, c, code as u64);
-            finish(&mut out, d);
-        }
-        Head::Label(_, _, _) => {}
-        Head::Bad => {}
-    }
+    let Some(extension) = heads::read_extension(line) else {
+        return;
+    };
+    let mut out = [0u8; 1024];
+    let a = put_name(&mut out, b"extension ");
+    let b = print::put_integer(&mut out, a, extension.number);
+    let c = output::put_byte(&mut out, b, b' ');
+    let d = print::put_integer(&mut out, c, extension.code as u64);
+    finish(&mut out, d);
 }
 
 // Writes the number of a shape's head, if the line is one.

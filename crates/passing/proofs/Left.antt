@@ -28,8 +28,8 @@ use Rattle.columns.specs.declared.Form.TheVariants.{Block, Rf, Gradient, Trap, A
 use Rattle.columns.specs.declared.Kind.TheVariants.{Count}
 use Rattle.rows.specs.Cells.{row_from, row_is}
 use Rattle.heads.specs.Heads.{label_of, extension_of, word_number_of}
-use Rattle.heads.specs.declared.Head.{Head as HeadLine}
-use Rattle.heads.specs.declared.Head.TheVariants.{Label, Extension, Bad as HeadBad}
+use Rattle.heads.specs.declared.Label.{Label as LabelLine}
+use Rattle.heads.specs.declared.Extension.{Extension as ExtensionLine}
 use Rattle.sections.specs.Sections.{section_no, has_section, place_in}
 use Rattle.sections.specs.Entering.{may_enter, entered, enter_of, early_section, section_at, section_step}
 use Rattle.sections.specs.Version.{major_word, minor_word, revision_word, version_row, edition_of, minor_row, version_step}
@@ -238,11 +238,10 @@ module _ (k : ℕ) (behind : 2 ≤ k) (st : State) (apart : section_in st.place 
   at-lines n line (Rows form) a = by_form n form (fields_of line)
   at-lines n line Shapes a = at_head a n (word_number_of shape_id_word 1 largest_id (fields_of line))
 
-  at_label : (increment : Bool) (n : ℕ) (l : HeadLine) → Silent k st (label_row st n increment l)
+  at_label : (increment : Bool) (n : ℕ) (l : Option LabelLine) → Silent k st (label_row st n increment l)
   unfolding label_row
-  at_label increment n (Label id v label) = gives n 10 (pos id ∷ pos (cond increment 1 0) ∷ v ∷ pos label ∷ []) (λ (e : 10 ≡ 8). omega arith) (λ (e : 10 ≡ 11). omega arith)
-  at_label increment n (Extension type code) = refuses FieldFault
-  at_label increment n HeadBad = refuses FieldFault
+  at_label increment n (Some line) = gives n 10 (pos line.id ∷ pos (cond increment 1 0) ∷ line.value ∷ pos line.label ∷ []) (λ (e : 10 ≡ 8). omega arith) (λ (e : 10 ≡ 11). omega arith)
+  at_label increment n None = refuses FieldFault
 
   at_listed : (n : ℕ) (fields : List (List ℕ)) (listed : Listed) → Silent k st (listed_step st n fields listed)
   unfolding listed_step label_step
@@ -251,11 +250,10 @@ module _ (k : ℕ) (behind : 2 ≤ k) (st : State) (apart : section_in st.place 
   at_listed n fields (Labels increment) = at_label increment n (label_of st.edition increment fields)
   at_listed n fields Unknown = stays
 
-  at-extension : (8 ≡ k → ⊥) → (n : ℕ) (l : HeadLine) → Silent k st (extension_row st n l)
+  at-extension : (8 ≡ k → ⊥) → (n : ℕ) (l : Option ExtensionLine) → Silent k st (extension_row st n l)
   unfolding extension_row given_section found_section padded same_z
-  at-extension o n (Extension type code) = record { left = to (Extensions (listed_of code)) o; other = o }
-  at-extension o n (Label id v label) = refuses FieldFault
-  at-extension o n HeadBad = refuses FieldFault
+  at-extension o n (Some line) = record { left = to (Extensions (listed_of line.code)) o; other = o }
+  at-extension o n None = refuses FieldFault
 
   at-extensions : (8 ≡ k → ⊥) → (n : ℕ) (fields : List (List ℕ)) (listed : Listed) → Silent k st (extensions_step st n fields listed)
   unfolding extensions_step extension_step

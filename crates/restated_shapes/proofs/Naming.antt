@@ -28,8 +28,7 @@ use Rattle.columns.specs.declared.Form.TheVariants.{Entry, Trigger}
 use Rattle.columns.specs.declared.Kind.TheVariants.{Count}
 use Rattle.rows.specs.Cells.{row_from, row_is}
 use Rattle.heads.specs.Heads.{label_of, extension_names, extension_word, is_name, extension_head, extension_fields, extension_of, word_number_of}
-use Rattle.heads.specs.declared.Head.{Head as HeadLine}
-use Rattle.heads.specs.declared.Head.TheVariants.{Label, Extension, Bad as HeadBad}
+use Rattle.heads.specs.declared.Label.{Label as LabelLine}
 use Rattle.sections.specs.Sections.{section_no}
 use Rattle.sections.specs.Entering.{may_enter, enter_of, early_section, section_at, section_step}
 use Rattle.sections.specs.Version.{major_word, minor_word, revision_word, version_row, minor_row, version_step}
@@ -146,11 +145,10 @@ module _ (st : State) (n : ℕ) (name : List ℕ) where
       go None = refused _
       go (Some vs) = gave st n (form_number form) vs (no-extension form)
 
-  label-named : (increment : Bool) (l : HeadLine) → Named name (label_row st n increment l)
+  label-named : (increment : Bool) (l : Option LabelLine) → Named name (label_row st n increment l)
   unfolding label_row
-  label-named increment (Label id v k) = gave st n 10 _ refl
-  label-named increment (Extension type code) = refused _
-  label-named increment HeadBad = refused _
+  label-named increment (Some line) = gave st n 10 _ refl
+  label-named increment None = refused _
 
   listed-named : (fields : List (List ℕ)) (listed : Listed) → Named name (listed_step st n fields listed)
   unfolding listed_step label_step
@@ -198,7 +196,7 @@ module _ (st : State) (n : ℕ) where
   extension-named (f ∷ g ∷ []) = unfold extension_row in refused st n g _
   extension-named (f ∷ g ∷ h ∷ []) = go (same_bytes f extension_word && is_name g)
     where
-      go : (b : Bool) → Named g (extension_row st n (cond b (extension_head (integer_of 1 largest_id h) (place_of extension_names g)) HeadBad))
+      go : (b : Bool) → Named g (extension_row st n (cond b (extension_head (integer_of 1 largest_id h) (place_of extension_names g)) None))
       go true = named-row st n g (integer_of 1 largest_id h)
       go false = unfold extension_row in refused st n g _
   extension-named (f ∷ g ∷ h ∷ k ∷ fs) = unfold extension_row in refused st n g _

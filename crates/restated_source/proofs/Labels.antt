@@ -17,8 +17,9 @@ use Rattle.print.proofs.Back.{counter-back}
 use Rattle.shape.specs.declared.Edition.{Edition}
 use Rattle.shape.specs.declared.Edition.TheVariants.{V13, V14}
 use Rattle.heads.specs.Heads.{label_names, is_v14, set_value, increment_value, label_value, label_head, label_fields, label_of}
-use Rattle.heads.specs.declared.Head.{Head}
-use Rattle.heads.specs.declared.Head.TheVariants.{Label, Extension, Bad}
+use Rattle.heads.specs.Heads.{Label}
+use Rattle.std.proofs.lemmas.Option.{same_Some}
+use Rattle.heads.specs.declared.Label.{Label as LabelLine}
 use Rattle.restated_laws.proofs.ListedBack.{integer-text}
 
 abbrev is_value : (Option ℤ) → Bool
@@ -79,17 +80,18 @@ unfolding label_value set_value
 value_before increment label field other = rw (ne_eqb label 13 other)
 
 -- ---- The label of a line
-abbrev is_label : Head → Bool
-is_label (Label id v label) = true
-is_label (Extension type code) = false
-is_label Bad = false
+abbrev is_label : (Option LabelLine) → Bool
+is_label (Some line) = true
+is_label None = false
 
-not-label : {id label : ℕ} {v : ℤ} → Bad ≡ Label id v label → ⊥
+not-label : {id label : ℕ} {v : ℤ} → None ≡ Label id v label → ⊥
 not-label e = true≢false (sym (ap is_label e))
 
 head-value : (i : (Option ℕ)) (x : (Option ℤ)) (k id : ℕ) (v : ℤ) (label : ℕ) → label_head i x k ≡ Label id v label → (x ≡ Some v) × (k ≡ label)
 unfolding label_head
-head-value (Some i) (Some x) k id v label e = (cc, cc)
+head-value (Some i) (Some x) k id v label e =
+    let same = same_Some _ _ e in
+    (ap (λ (l : LabelLine). Some l.value) same, ap (λ (l : LabelLine). l.label) same)
 head-value (Some i) None k id v label e = absurd (not-label e)
 head-value None x k id v label e = absurd (not-label e)
 

@@ -34,8 +34,8 @@ use Rattle.columns.proofs.Widths.{row_fits}
 use Rattle.rows.specs.Cells.{row_from, row_is}
 use Rattle.rows.proofs.Ranges.{row-in-range}
 use Rattle.heads.specs.Heads.{label_value, label_of, extension_of, word_number_of}
-use Rattle.heads.specs.declared.Head.{Head as HeadLine}
-use Rattle.heads.specs.declared.Head.TheVariants.{Label, Extension, Bad as HeadBad}
+use Rattle.heads.specs.declared.Label.{Label as LabelLine}
+use Rattle.heads.specs.declared.Extension.{Extension as ExtensionLine}
 use Rattle.heads.proofs.Ranges.{label-range, extension-range}
 use Rattle.sections.specs.Sections.{section_no, has_section, place_in}
 use Rattle.sections.specs.Entering.{may_enter, entered, enter_of, early_section, section_at, section_step}
@@ -295,24 +295,22 @@ module _ (st : State) (listed : Listed) (s : Stands st listed) (now : met st ≡
   unfolding extension_step extension_row
   at-extension n fields = go (extension_of fields) refl
     where
-      go : (l : HeadLine) → extension_of fields ≡ l → Ordered listed (extension_row st n l)
-      go (Extension type code) e =
-          let r = extension-range fields type code e in
-          gives listed (moved_of st (Extensions (listed_of code))) (listed_of code) (moves-to code) n _ (extension-row type code r.0 r.1 r.2)
-      go (Label id v k) e = refuses listed st s FieldFault
-      go HeadBad e = refuses listed st s FieldFault
+      go : (l : Option ExtensionLine) → extension_of fields ≡ l → Ordered listed (extension_row st n l)
+      go (Some line) e =
+          let r = extension-range fields line.number line.code e in
+          gives listed (moved_of st (Extensions (listed_of line.code))) (listed_of line.code) (moves-to line.code) n _ (extension-row line.number line.code r.0 r.1 r.2)
+      go None e = refuses listed st s FieldFault
 
 at_label : (st : State) (increment : Bool) → Stands st (Labels increment) → (n : ℕ) (fields : List (List ℕ)) → Ordered (Labels increment) (label_step st n increment fields)
 unfolding label_step label_row
 at_label st increment s n fields = go (label_of st.edition increment fields) refl
   where
-    go : (l : HeadLine) → label_of st.edition increment fields ≡ l → Ordered (Labels increment) (label_row st n increment l)
-    go (Label id v k) e =
-        let r = label-range st.edition increment fields id v k e in
+    go : (l : Option LabelLine) → label_of st.edition increment fields ≡ l → Ordered (Labels increment) (label_row st n increment l)
+    go (Some line) e =
+        let r = label-range st.edition increment fields line.id line.value line.label e in
         gives (Labels increment) st (Labels increment) s n _
-        (label-row increment id k v r.0 r.1 r.2 r.3 r.4 (label-again st.edition increment fields id v k r.2 e))
-    go (Extension type code) e = refuses (Labels increment) st s FieldFault
-    go HeadBad e = refuses (Labels increment) st s FieldFault
+        (label-row increment line.id line.label line.value r.0 r.1 r.2 r.3 r.4 (label-again st.edition increment fields line.id line.value line.label r.2 e))
+    go None e = refuses (Labels increment) st s FieldFault
 
 at_listed : (st : State) (listed : Listed) → Stands st listed → (n : ℕ) (fields : List (List ℕ)) → Ordered listed (listed_step st n fields listed)
 unfolding listed_step columns_of

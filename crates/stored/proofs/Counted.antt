@@ -22,8 +22,8 @@ use Rattle.columns.specs.declared.Form.TheVariants.{Block, Rf, Gradient, Trap, A
 use Rattle.columns.specs.declared.Kind.TheVariants.{Count}
 use Rattle.rows.specs.Cells.{row_from, row_is}
 use Rattle.heads.specs.Heads.{label_of, extension_of, word_number_of}
-use Rattle.heads.specs.declared.Head.{Head as HeadLine}
-use Rattle.heads.specs.declared.Head.TheVariants.{Label, Extension, Bad as HeadBad}
+use Rattle.heads.specs.declared.Label.{Label as LabelLine}
+use Rattle.heads.specs.declared.Extension.{Extension as ExtensionLine}
 use Rattle.sections.specs.Sections.{section_no}
 use Rattle.sections.specs.Entering.{may_enter, enter_of, early_section, section_at, section_step}
 use Rattle.sections.specs.Version.{major_word, minor_word, revision_word, version_row, minor_row, version_step}
@@ -116,17 +116,15 @@ module _ (st : State) (n : ℕ) where
       go None = silent refl
       go (Some vs) = other (rw (kind-of (form_number form) vs) (form-other form))
 
-  at_label : (increment : Bool) (l : HeadLine) → Counted (label_row st n increment l)
+  at_label : (increment : Bool) (l : Option LabelLine) → Counted (label_row st n increment l)
   unfolding label_row is_row same_z
-  at_label increment (Label id v label) = other (rw (kind-of 10 (pos id ∷ pos (cond increment 1 0) ∷ v ∷ pos label ∷ [])) refl)
-  at_label increment (Extension type code) = silent refl
-  at_label increment HeadBad = silent refl
+  at_label increment (Some line) = other (rw (kind-of 10 (pos line.id ∷ pos (cond increment 1 0) ∷ line.value ∷ pos line.label ∷ [])) refl)
+  at_label increment None = silent refl
 
-  at-extension : (l : HeadLine) → Counted (extension_row st n l)
+  at-extension : (l : Option ExtensionLine) → Counted (extension_row st n l)
   unfolding extension_row is_row same_z
-  at-extension (Extension type code) = other (rw (kind-of 8 (pos type ∷ pos code ∷ [])) refl)
-  at-extension (Label id v label) = silent refl
-  at-extension HeadBad = silent refl
+  at-extension (Some line) = other (rw (kind-of 8 (pos line.number ∷ pos line.code ∷ [])) refl)
+  at-extension None = silent refl
 
   at_listed : (fields : List (List ℕ)) (listed : Listed) → Counted (listed_step st n fields listed)
   unfolding listed_step label_step is_row

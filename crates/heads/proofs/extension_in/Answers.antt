@@ -12,16 +12,13 @@ pub returns-then-not-is_name : goal.returns-then-not-is_name
 unfolding extension_word
 returns-then-not-is_name c = extension-unnamed _ _ _ (sym c.same.ensures ∙ c.if-not-same.false) (sym c.is_name.ensures ∙ c.if-not-is_name.true)
 
-pub returns-in-Some : goal.returns-in-Some
+pub returns-in_err-number : goal.returns-in_err-number
 unfolding extension_word
-returns-in-Some c =
-    extension-read _ _ _ (sym c.same.ensures ∙ c.if-not-same.false)
-    (sym c.is_name.ensures ∙ c.if-not-is_name.false)
-    _ c.read_integer.ensures _ c.in-Some.is _ c.extension_code.ensures
+returns-in_err-number c =
+    c.from_residual.ensures
+    ∙ extension-no-number _ _ _ (sym c.same.ensures ∙ c.if-not-same.false) (sym c.is_name.ensures ∙ c.if-not-is_name.false) _ c.read_integer.ensures c.in_err-number.was
 
-pub returns-in-None : goal.returns-in-None
+pub returns : goal.returns
 unfolding extension_word
-returns-in-None c =
-    extension-no-number _ _ _ (sym c.same.ensures ∙ c.if-not-same.false)
-    (sym c.is_name.ensures ∙ c.if-not-is_name.false)
-    _ c.read_integer.ensures c.in-None.is
+returns c =
+    extension-read _ _ _ (sym c.same.ensures ∙ c.if-not-same.false) (sym c.is_name.ensures ∙ c.if-not-is_name.false) _ c.read_integer.ensures _ c.in_ok-number.was _ c.extension_code.ensures
