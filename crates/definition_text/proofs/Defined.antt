@@ -23,7 +23,6 @@ use Rattle.shape.specs.Stored.{item_of}
 use Rattle.shape.specs.declared.Item.{Item}
 use Rattle.shape.specs.declared.Item.TheVariants.{Value as ItemValue, Skipped, Bad as ItemBad}
 use Rattle.columns.specs.declared.Form.{Form}
-use Rattle.rows.specs.declared.Row.{Row}
 use Rattle.heads.specs.declared.Label.{Label as LabelLine}
 use Rattle.heads.specs.declared.Extension.{Extension as ExtensionLine}
 use Rattle.places.specs.Places.{went_of, refused_of}
@@ -98,9 +97,10 @@ module _ (st : State) where
   other-version fields Revision = other-version-row _ _
 
   module _ (n : ℕ) where
-    other-given : (row : Row) → Other (given_row st n row)
+    other-given : (row : (Option (List ℤ))) → Other (given_row st n row)
     unfolding given_row is_defined
-    other-given row = other-cond row.good (gave_of st n row.cells) (refused_of st FieldFault) refl refl
+    other-given (Some cells) = refl
+    other-given None = refl
 
     other_row : (form : Form) (fields : List (List ℕ)) → Other (row_step st n form fields)
     unfolding row_step

@@ -92,8 +92,8 @@ module _ (file site : List ℕ) (table l : List ℤ) where
       let shapes = peel (ltb (first_failing got.edition file (rows_laid file table) (length l) got.rows) got.rows) _ _ _ raster.1 in
       record {
         edition = got.edition;
-        rows = got.rows;
-        samples = got.samples;
+        n = got.rows;
+        s = got.samples;
         defined = got.defined;
         passed = record {
           big = b;

@@ -18,7 +18,6 @@ use Rattle.columns.specs.Columns.{columns_of}
 use Rattle.columns.specs.Rows.{padded}
 use Rattle.rows.specs.Cells.{row_from, row_is}
 use Rattle.columns.specs.declared.Form.{Form}
-use Rattle.rows.specs.declared.Row.{Row}
 use Rattle.heads.specs.Heads.{label_of, extension_of, extension_word, word_number_of}
 use Rattle.heads.specs.Heads.{Label, Extension}
 use Rattle.heads.specs.declared.Label.{Label as LabelLine}
@@ -46,12 +45,12 @@ module _ (st : State) (line : List ℕ) where
   defines n = rw (le-leb 1 (length (value_of line)) (omega arith))
 
 -- ---- rows
-module _ (st : State) (n : ℕ) (form : Form) (fields : List (List ℕ)) (row : Row) (p : row ≡ row_is form (row_from (columns_of st.edition form) fields)) where
-  pub row-given : row.good ≡ true → gave_of st n row.cells ≡ row_step st n form fields
+module _ (st : State) (n : ℕ) (form : Form) (fields : List (List ℕ)) (row : (Option (List ℤ))) (p : row ≡ row_is form (row_from (columns_of st.edition form) fields)) where
+  pub row-given : (cells : List ℤ) → row ≡ Some cells → gave_of st n cells ≡ row_step st n form fields
   unfolding row_step given_row
-  row-given e = rw (← p, e)
+  row-given cells e = rw (← p, e)
 
-  pub row-refused : row.good ≡ false → refused_of st Field ≡ row_step st n form fields
+  pub row-refused : row ≡ None → refused_of st Field ≡ row_step st n form fields
   unfolding row_step given_row
   row-refused e = rw (← p, e)
 

@@ -1,4 +1,5 @@
 -- Lines read where they stand in a text: cut off, or as a row at once; and what a caller learns of one. Assumes nothing.
+use Rattle.std.proofs.Common.{ℤ, Some}
 use Prim.Native.Nat.{ℕ, ◌-◌, ◌<◌}
 use mathlib.Core.Bool.{Bool, true, false, cond}
 use mathlib.Core.Logic.{◌⊎◌, inl, inr}
@@ -58,14 +59,14 @@ module _ (st : State) (n : ℕ) (text : List ℕ) (at : ℕ) where
   unfolding plain_step marked_step
   rows_step line form place p m q e = rw (q, ← e, p)
 
-  pub read-row : (lines : Lines) (form : Form) → st.place ≡ Section lines → lines ≡ Rows form → (r : RowLine) → r ≡ line_row_of st.edition form text at → r.good ≡ true → (did : Stepped)
-      → did ≡ gave_of st n r.cells → ◌≡◌ {A = Read} (record { did = did; next = r.next }) (read_at st n text at)
+  pub read-row : (lines : Lines) (form : Form) → st.place ≡ Section lines → lines ≡ Rows form → (r : RowLine) → r ≡ line_row_of st.edition form text at → (cells : List ℤ) → r.row ≡ Some cells → (did : Stepped)
+      → did ≡ gave_of st n cells → ◌≡◌ {A = Read} (record { did = did; next = r.next }) (read_at st n text at)
   unfolding lines_step
-  read-row lines form p q r e g did d =
-      let x = good-row st.edition form text at r e g in
+  read-row lines form p q r e cells g did d =
+      let x = good-row st.edition form text at r cells e g in
       let line = bare_of (drop at text) in
       read_is did r.next
-      (d ∙ row-given st n form (fields_of line) (record { good = true; cells = r.cells }) x.row refl ∙ rows_step line form st.place (p ∙ ap Section q) (mark_of line) x.plain refl
+      (d ∙ row-given st n form (fields_of line) (Some cells) x.row cells refl ∙ rows_step line form st.place (p ∙ ap Section q) (mark_of line) x.plain refl
       ∙ line_marked st n line x.allowed)
       x.next
 

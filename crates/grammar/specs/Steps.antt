@@ -17,7 +17,6 @@ use Rattle.rows.specs.Cells.{row_from, row_is}
 use Rattle.columns.specs.declared.Form.{Form}
 use Rattle.columns.specs.declared.Form.TheVariants.{Entry, Trigger}
 use Rattle.columns.specs.declared.Kind.TheVariants.{Count}
-use Rattle.rows.specs.declared.Row.{Row}
 use Rattle.heads.specs.Heads.{label_of, extension_of, extension_word, word_number_of}
 use Rattle.heads.specs.declared.Label.{Label as LabelLine}
 use Rattle.heads.specs.declared.Extension.{Extension as ExtensionLine}
@@ -59,8 +58,9 @@ unfoldable pub definition_step : State → List ℕ → Stepped
 definition_step st line = cond (is_definition line) (defined_of st) (refused_of st FieldFault)
 
 -- ---- Rows by their columns
-unfoldable pub given_row : State → ℕ → Row → Stepped
-given_row st n row = cond row.good (gave_of st n row.cells) (refused_of st FieldFault)
+unfoldable pub given_row : State → ℕ → (Option (List ℤ)) → Stepped
+given_row st n (Some cells) = gave_of st n cells
+given_row st n None = refused_of st FieldFault
 
 unfoldable pub row_step : State → ℕ → Form → List (List ℕ) → Stepped
 row_step st n form fields = given_row st n (row_is form (row_from (columns_of st.edition form) fields))

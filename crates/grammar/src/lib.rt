@@ -102,13 +102,10 @@ fn definition_step(st: State, line: &[u8]) -> Stepped
 fn row_step(st: State, n: usize, form: Form, line: &[u8]) -> Stepped
     ensures { result ≡ row_step st n form (fields_of line.now) }
 {
-    let edition = st.edition;
-    let row = rows::read_row(edition, form, line);
-    if row.good {
-        let cells = row.cells;
-        return gave(st, n, cells);
+    match rows::read_row(st.edition, form, line) {
+        Some(cells) => gave(st, n, cells),
+        None => places::refused(st, Fault::Field),
     }
-    places::refused(st, Fault::Field)
 }
 
 // A row of at most four numbers behind its kind.
@@ -343,14 +340,11 @@ pub fn read_line(st: State, n: usize, text: &[u8], at: usize) -> Read
     let place = st.place;
     if let Place::Section(lines) = place {
         if let Lines::Rows(form) = lines {
-            let edition = st.edition;
-            let row = rows::line_row(edition, form, text, at);
-            if row.good {
-                let cells = row.cells;
-                let did = gave(st, n, cells);
+            let line = rows::line_row(st.edition, form, text, at);
+            if let Some(cells) = line.row {
                 return Read {
-                    did,
-                    next: row.next,
+                    did: gave(st, n, cells),
+                    next: line.next,
                 };
             }
         }

@@ -35,11 +35,9 @@ fn put_numbers(out: &mut [u8], at: usize, numbers: &[i64]) -> usize {
 
 // Writes a row's twelve numbers and the row as it is printed, if the line is one.
 fn show_row(edition: Edition, name: &[u8], form: Form, line: &[u8]) {
-    let row = rows::read_row(edition, form, line);
-    if !row.good {
+    let Some(cells) = rows::read_row(edition, form, line) else {
         return;
-    }
-    let cells = row.cells;
+    };
     let mut out = [0u8; 1024];
     let a = put_name(&mut out, name);
     let b = put_numbers(&mut out, a, &cells);

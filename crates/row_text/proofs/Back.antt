@@ -31,15 +31,15 @@ use Rattle.row_text.proofs.Writing.{whole-text, decimal-text}
 -- ---- One column
 -- a whole number
 module _ (n : ℕ) where
-  integer-cell : (k : Kind) → most_of k < 10 ^ 10 → least_of k ≤ n → n ≤ most_of k → integer_cell k (digits_of n) ≡ One (pos n)
+  integer-cell : (k : Kind) → most_of k < 10 ^ 10 → least_of k ≤ n → n ≤ most_of k → integer_cell k (digits_of n) ≡ Some (One (pos n))
   unfolding integer_cell natural_cell
   integer-cell k s l m = rw (integer-back (least_of k) (most_of k) n (omega arith) l m)
 
-  dwell-cell : 1 ≤ n → n ≤ 1000000000 → dwell_cell (decimal_of (digits_of n)) ≡ One (pos n)
+  dwell-cell : 1 ≤ n → n ≤ 1000000000 → dwell_cell (decimal_of (digits_of n)) ≡ Some (One (pos n))
   unfolding dwell_cell natural_cell
   dwell-cell l m = rw (natural-back n (omega arith), natural-worth n 1 1000000000 l m)
 
-  whole-cell : (k : Kind) → is_whole k ≡ true → least_of k ≤ n → n ≤ most_of k → cell_of k (digits_of n) ≡ One (pos n)
+  whole-cell : (k : Kind) → is_whole k ≡ true → least_of k ≤ n → n ≤ most_of k → cell_of k (digits_of n) ≡ Some (One (pos n))
   unfolding cell_of
   whole-cell Id e l m = integer-cell Id (omega arith) l m
   whole-cell Reference e l m = integer-cell Reference (omega arith) l m
@@ -52,11 +52,11 @@ module _ (n : ℕ) where
   whole-cell Dwell e l m = dwell-cell l m
   whole-cell Absent e l m = absurd (let z : ◌≡◌ {A = ℕ} 0 1 = cc in omega arith)
 
-  pub cell-back : (k : Kind) (vs : List ℤ) → is_whole k ≡ true → least_of k ≤ n → n ≤ most_of k → cell_of k (field_text k (pos n ∷ vs)) ≡ One (pos n)
+  pub cell-back : (k : Kind) (vs : List ℤ) → is_whole k ≡ true → least_of k ≤ n → n ≤ most_of k → cell_of k (field_text k (pos n ∷ vs)) ≡ Some (One (pos n))
   cell-back k vs e l m = ap (cell_of k) (whole-text k (pos n ∷ vs) e ∙ natural-text n) ∙ whole-cell k e l m
 
 -- a decimal
-pub pair-back : (m e : ℤ) (vs : List ℤ) → Kept (record { mantissa = m; exponent = e }) → cell_of Decimal (field_text Decimal (m ∷ e ∷ vs)) ≡ Two m e
+pub pair-back : (m e : ℤ) (vs : List ℤ) → Kept (record { mantissa = m; exponent = e }) → cell_of Decimal (field_text Decimal (m ∷ e ∷ vs)) ≡ Some (Two m e)
 unfolding cell_of decimal_cell
 pair-back m e vs k = rw (decimal-text (m ∷ e ∷ vs), decimal-back (record { mantissa = m; exponent = e }) k)
 
@@ -109,11 +109,11 @@ texts-words (k ∷ ks) vs = go (is_absent k) refl (texts-words ks (drop (width_o
     go false e p = one_more (field-word k vs e) p
 
 -- ---- The law
-one-some : (v : ℤ) (vs : List ℤ) → with (One v) (Some vs) ≡ Some (v ∷ vs)
+one-some : (v : ℤ) (vs : List ℤ) → with (Some (One v)) (Some vs) ≡ Some (v ∷ vs)
 unfolding with
 one-some v vs = refl
 
-two-some : (a b : ℤ) (vs : List ℤ) → with (Two a b) (Some vs) ≡ Some (a ∷ b ∷ vs)
+two-some : (a b : ℤ) (vs : List ℤ) → with (Some (Two a b)) (Some vs) ≡ Some (a ∷ b ∷ vs)
 unfolding with
 two-some a b vs = refl
 
@@ -126,7 +126,7 @@ row_back no_more = last-back
 row_back (no_field {ks} {vs} r) =
     ap (row_from (Absent ∷ ks)) (texts-absent ks (pos 0) vs)
     ∙ row-absent Absent ks (texts_of ks vs) refl
-    ∙ ap (with (One (pos 0))) (row_back r)
+    ∙ ap (with (Some (One (pos 0)))) (row_back r)
     ∙ one-some (pos 0) vs
 row_back (one_number {k} {ks} {n} {vs} e l m r) =
     ap (row_from (k ∷ ks)) (texts-whole k ks (pos n) vs e)

@@ -1,4 +1,5 @@
 -- The columns of a block, and its line read where it stands in a text. Assumes nothing.
+use Rattle.std.proofs.Common.{Some}
 use Prim.Native.Nat.{ℕ, zero, suc, ◌+◌, ◌-◌, ◌≤◌, ◌<◌, min}
 use mathlib.Core.Bool.{true, false}
 use mathlib.Core.List.{List, []}
@@ -134,7 +135,7 @@ module _ {edition : Edition} {text : List ℕ} {at : ℕ} {cells : List ℤ} {i 
         let n : length (bare_of (drop at text)) ≤ stop - at = omega (arith, feed-long ends h f) in
         ap fields_of (left b.along) ∙ fields-blanks text i ∙ rw (← p) (ap fields_of (sym (left ends) ∙ drop_of_length-le (bare_of (drop at text)) n))
 
-    whole : row_is Block (row_from (columns_of edition Block) (fields_of (bare_of (drop at text)))) ≡ record { good = true; cells = set cells 9 (pos 0) }
+    whole : row_is Block (row_from (columns_of edition Block) (fields_of (bare_of (drop at text)))) ≡ Some (set cells 9 (pos 0))
     whole =
         let n = b.few in
         let e : 9 ≡ j + 1 = omega arith in
@@ -148,6 +149,6 @@ module _ {edition : Edition} {text : List ℕ} {at : ℕ} {cells : List ℤ} {i 
     unfolding cut_at
     next-line = ap (λ (r : Piece). r.next) (feed-cut ends h f)
 
-    pub block-end : stop - at ≤ 1024 → ◌≡◌ {A = RowLine} (record { good = true; cells = set cells 9 (pos 0); next = stop + 1 }) (line_row_of edition Block text at)
+    pub block-end : stop - at ≤ 1024 → ◌≡◌ {A = RowLine} (record { row = Some (set cells 9 (pos 0)); next = stop + 1 }) (line_row_of edition Block text at)
     unfolding line_row_of placed_row allowed_row
     block-end k = rw (allowed k, whole, next-line)

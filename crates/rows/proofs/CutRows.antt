@@ -31,15 +31,9 @@ use Rattle.columns.specs.declared.Form.{Form}
 use Rattle.columns.specs.declared.Form.TheVariants.{Block, Rf, Gradient, Trap, Adc, Delay, Entry, Trigger}
 use Rattle.rows.specs.Cells.{row_from, row_is}
 use Rattle.rows.specs.Placed.{allowed_row, placed_row, line_row_of}
-use Rattle.rows.specs.declared.Row.{Row}
 use Rattle.rows.specs.declared.RowLine.{RowLine}
 use Rattle.rows.proofs.Rows.{row-short, no_row}
 use Rattle.rows.proofs.Digits.{none-there, word-there, no-digits}
-
--- ---- No row where there is none
-pub placed-bad : (row : Row) (next : ℕ) (r : RowLine) → row ≡ row_is Block None → r ≡ placed_row row next → r.good ≡ true → ⊥
-unfolding placed_row row_is
-placed-bad row next r p q e = false≢true (sym (ap (λ (x : RowLine). x.good) q ∙ ap (λ (x : Row). x.good) p) ∙ e)
 
 -- ---- A row starts with an ID, so that its line is a plain one
 id-first : (edition : Edition) (form : Form) → columns_of edition form ≡ Id ∷ drop 1 (columns_of edition form)
@@ -77,7 +71,7 @@ row_plain edition form line vs e = id-plain line (drop 1 (columns_of edition for
 
 -- ---- What LINE refuses is no row, and no comment is one
 module _ (edition : Edition) (form : Form) (line : List ℕ) where
-  pub row-broken : breaks_line line ≡ true → row_is Block None ≡ allowed_row edition form line
+  pub row-broken : breaks_line line ≡ true → None ≡ allowed_row edition form line
   unfolding allowed_row
   row-broken e = rw e (no_row form None refl)
 
@@ -94,20 +88,20 @@ module _ (edition : Edition) (form : Form) (line : List ℕ) where
   not-comment = refl
 
   -- no row, whether LINE refuses the line or not
-  row-none : row_from (columns_of edition form) (fields_of line) ≡ None → row_is Block None ≡ allowed_row edition form line
+  row-none : row_from (columns_of edition form) (fields_of line) ≡ None → None ≡ allowed_row edition form line
   row-none p = either (breaks_line line) ∙ sym (row_is_lem p)
     where
-      either : (b : Bool) → row_is Block None ≡ row_is form (cond b None None)
+      either : (b : Bool) → None ≡ row_is form (cond b None None)
       either true = no_row form None refl
       either false = no_row form None refl
 
-  pub row-control : any_control line ≡ true → row_is Block None ≡ allowed_row edition form line
+  pub row-control : any_control line ≡ true → None ≡ allowed_row edition form line
   row-control e =
       ⊎_elim (λ (h : 1024 < length line). row-broken (sym (breaks-long line h)))
       (λ (h : length line ≤ 1024). go h (row_from (columns_of edition form) (fields_of line)) refl)
       (lt-or-ge 1024 (length line))
     where
-      go : length line ≤ 1024 → (o : Option (List ℤ)) → row_from (columns_of edition form) (fields_of line) ≡ o → row_is Block None ≡ allowed_row edition form line
+      go : length line ≤ 1024 → (o : Option (List ℤ)) → row_from (columns_of edition form) (fields_of line) ≡ o → None ≡ allowed_row edition form line
       go h None p = row-none p
       go h (Some vs) p = row-broken (sym (breaks-other line h (mark_of line) refl Plain (row_plain edition form line vs p) not-comment) ∙ e)
 
@@ -155,20 +149,20 @@ module _ (text : List ℕ) (at : ℕ) (r : Piece) (p : r ≡ cut_at text at) whe
   cut-next = ap (λ (x : Piece). x.next) p
 
   -- the answer, by the row that it holds
-  module _ (edition : Edition) (form : Form) (row : Row) (a : RowLine) (q : a ≡ placed_row row r.next) where
+  module _ (edition : Edition) (form : Form) (row : (Option (List ℤ))) (a : RowLine) (q : a ≡ placed_row row r.next) where
     placed-as : row ≡ allowed_row edition form (bare_of (drop at text)) → a ≡ line_row_of edition form text at
     unfolding line_row_of
     placed-as e = q ∙ rw (e, cut-next)
 
     -- a byte that only a comment may hold, no line at all, a long line, and a line that may stand in a file
-    pub row-unclean : row ≡ row_is Block None → r.clean ≡ false → a ≡ line_row_of edition form text at
+    pub row-unclean : row ≡ None → r.clean ≡ false → a ≡ line_row_of edition form text at
     row-unclean e f = placed-as (e ∙ row-control edition form (bare_of (drop at text)) (not-false _ (sym clean_is ∙ f)))
 
-    pub row-past : row ≡ row_is Block None → length text < r.stop → a ≡ line_row_of edition form text at
+    pub row-past : row ≡ None → length text < r.stop → a ≡ line_row_of edition form text at
     row-past e h = placed-as (e ∙ rw (cut-past h) (row-none edition form [] (empty-none edition form)))
 
     module _ (h : r.stop ≤ length text) where
-      pub row-long : row ≡ row_is Block None → 1024 < r.stop - at → a ≡ line_row_of edition form text at
+      pub row-long : row ≡ None → 1024 < r.stop - at → a ≡ line_row_of edition form text at
       row-long e k = placed-as (e ∙ row-broken edition form (bare_of (drop at text)) (sym (breaks-long (bare_of (drop at text)) (rw (cut-long h) k))))
 
       pub row_cut : row ≡ row_is form (row_from (columns_of edition form) (fields_of (take (r.stop - at) (drop at text)))) → r.clean ≡ true → r.stop - at ≤ 1024
@@ -179,19 +173,22 @@ module _ (text : List ℕ) (at : ℕ) (r : Piece) (p : r ≡ cut_at text at) whe
 pub row_told : (edition : Edition) {form k : Form} (text : List ℕ) (at : ℕ) {r : RowLine} → form ≡ k → r ≡ line_row_of edition k text at → r ≡ line_row_of edition form text at
 row_told edition text at e p = rw e p
 
--- ---- What a good row says of its line
-pub record GoodRow (edition : Edition) (form : Form) (text : List ℕ) (at : ℕ) (r : RowLine) : Type 0 where
+-- ---- What a row that was read says of its line
+pub record GoodRow (edition : Edition) (form : Form) (text : List ℕ) (at : ℕ) (r : RowLine) (cells : List ℤ) : Type 0 where
   pub allowed : breaks_line (bare_of (drop at text)) ≡ false
   pub plain : mark_of (bare_of (drop at text)) ≡ Plain
-  pub row : record { good = true; cells = r.cells } ≡ row_is form (row_from (columns_of edition form) (fields_of (bare_of (drop at text))))
+  pub row : Some cells ≡ row_is form (row_from (columns_of edition form) (fields_of (bare_of (drop at text))))
   pub next : r.next ≡ (line_at text at).next
 
-pub good-row : (edition : Edition) (form : Form) (text : List ℕ) (at : ℕ) (r : RowLine) → r ≡ line_row_of edition form text at → r.good ≡ true → GoodRow edition form text at r
+pub good-row : (edition : Edition) (form : Form) (text : List ℕ) (at : ℕ) (r : RowLine) (cells : List ℤ) → r ≡ line_row_of edition form text at → r.row ≡ Some cells
+    → GoodRow edition form text at r cells
 unfolding line_row_of placed_row allowed_row row_is
-good-row edition form text at r p e = go (breaks_line (bare_of (drop at text))) (row_from (columns_of edition form) (fields_of (bare_of (drop at text)))) refl refl (ap (λ (x : RowLine). x.good) p) (ap (λ (x : RowLine). x.cells) p) (ap (λ (x : RowLine). x.next) p)
+good-row edition form text at r cells p e =
+    go (breaks_line (bare_of (drop at text))) (row_from (columns_of edition form) (fields_of (bare_of (drop at text)))) refl refl (ap (λ (x : RowLine). x.row) p)
+    (ap (λ (x : RowLine). x.next) p)
   where
     go : (b : Bool) (o : Option (List ℤ)) → breaks_line (bare_of (drop at text)) ≡ b → row_from (columns_of edition form) (fields_of (bare_of (drop at text))) ≡ o
-        → r.good ≡ (row_is form (cond b None o)).good → r.cells ≡ (row_is form (cond b None o)).cells → r.next ≡ (line_at text at).next → GoodRow edition form text at r
-    go true o f q g c n = absurd (false≢true (sym g ∙ e))
-    go false None f q g c n = absurd (false≢true (sym g ∙ e))
-    go false (Some vs) f q g c n = record { allowed = f; plain = row_plain edition form (bare_of (drop at text)) vs q; row = rw (q, c); next = n }
+        → r.row ≡ row_is form (cond b None o) → r.next ≡ (line_at text at).next → GoodRow edition form text at r cells
+    go true o f q g n = absurd (none-some cells (sym g ∙ e))
+    go false None f q g n = absurd (none-some cells (sym g ∙ e))
+    go false (Some vs) f q g n = record { allowed = f; plain = row_plain edition form (bare_of (drop at text)) vs q; row = rw q (sym e ∙ g); next = n }

@@ -1,5 +1,6 @@
 -- Digits of a line gathered up to a blank, and that they are the integer of a column. Assumes nothing.
-use Rattle.std.proofs.Common.{None}
+use Rattle.std.proofs.lemmas.Option.{same_Some}
+use Rattle.std.proofs.Common.{None, Some}
 use Prim.Native.Nat.{ℕ, suc, ◌+◌, ◌*◌, ◌-◌, ◌^◌, ◌≤◌, ◌<◌, min}
 use mathlib.Core.Bool.{true, false, ◌&&◌, and-false, false≢true}
 use mathlib.Core.List.{List, [], ◌∷◌}
@@ -33,7 +34,6 @@ use Rattle.columns.specs.declared.Kind.TheVariants.{Id, Reference, Required, Mic
 use Rattle.rows.specs.Cells.{integer_cell, cell_of, with, row_from}
 use Rattle.rows.specs.Inside.{by_digits, word_at, gathered_of, CellIs}
 use Rattle.rows.specs.declared.Cell.TheVariants.{One}
-use Rattle.rows.specs.declared.Gathered.TheVariants.{Digits, Bad}
 use Rattle.rows.proofs.Cells.{integer-good, integer-none, one-wide}
 use Rattle.rows.proofs.Rows.{row_field, with-bad}
 
@@ -54,16 +54,16 @@ module _ (line : List ℕ) (i : ℕ) where
 
 -- ---- Digits, one at a time
 module _ (v k i : ℕ) where
-  gathered-end : k ≤ 10 → Digits v i ≡ gathered_of v k i []
+  gathered-end : k ≤ 10 → Some (v, i) ≡ gathered_of v k i []
   unfolding gathered_of all_digits value_from
   gathered-end h = rw (add-zero k, le-leb k 10 h, add-zero i)
 
   module _ (b : ℕ) (w : List ℕ) where
-    gathered-other : is_digit b ≡ false → Bad ≡ gathered_of v k i (b ∷ w)
+    gathered-other : is_digit b ≡ false → None ≡ gathered_of v k i (b ∷ w)
     unfolding gathered_of all_digits
     gathered-other e = rw (e, and-false)
 
-    gathered-long : 9 < k → Bad ≡ gathered_of v k i (b ∷ w)
+    gathered-long : 9 < k → None ≡ gathered_of v k i (b ∷ w)
     unfolding gathered_of
     gathered-long h = rw (lt-leb (k + suc (length w)) 10 (omega arith))
 
@@ -95,21 +95,21 @@ module _ (line : List ℕ) (start v i : ℕ) (g : Gathering line start v i) wher
   pub small : i - start ≤ 9 → v < 1000000000
   small h = lt_of_lt_of_le g.size (pow-le-pow_right {n = 10} (lit< tt) h)
 
-  pub end : length line ≤ i → Digits v i ≡ gathered_of 0 0 start (word_at line start)
+  pub end : length line ≤ i → Some (v, i) ≡ gathered_of 0 0 start (word_at line start)
   end h = rw (← g.rest, word_none line i h) (gathered-end v (i - start) i g.few)
 
   module _ (h : i < length line) where
-    pub at-blank : is_blank (get_or line i 0) ≡ true → Digits v i ≡ gathered_of 0 0 start (word_at line start)
+    pub at-blank : is_blank (get_or line i 0) ≡ true → Some (v, i) ≡ gathered_of 0 0 start (word_at line start)
     at-blank e = rw (← g.rest, word-stop line i h e) (gathered-end v (i - start) i g.few)
 
-    pub below : is_blank (get_or line i 0) ≡ false → get_or line i 0 < 48 → Bad ≡ gathered_of 0 0 start (word_at line start)
+    pub below : is_blank (get_or line i 0) ≡ false → get_or line i 0 < 48 → None ≡ gathered_of 0 0 start (word_at line start)
     below e p = rw (← g.rest, word_more line i h e) (gathered-other v (i - start) i _ _ (digit_low _ p))
 
-    pub above : 57 < get_or line i 0 → Bad ≡ gathered_of 0 0 start (word_at line start)
+    pub above : 57 < get_or line i 0 → None ≡ gathered_of 0 0 start (word_at line start)
     above p = rw (← g.rest, word_more line i h (solid _ (omega arith))) (gathered-other v (i - start) i _ _ (digit-high _ p))
 
     module _ (p : 48 ≤ get_or line i 0) where
-      pub long : 9 < i - start → Bad ≡ gathered_of 0 0 start (word_at line start)
+      pub long : 9 < i - start → None ≡ gathered_of 0 0 start (word_at line start)
       long k = rw (← g.rest, word_more line i h (solid _ p)) (gathered-long v (i - start) i _ _ k)
 
       pub turn : get_or line i 0 ≤ 57 → i - start ≤ 9 → Gathering line start (v * 10 + (get_or line i 0 - 48)) (i + 1)
@@ -162,29 +162,27 @@ word-begins line i s =
 
 -- ---- Digits that were gathered are the integer that the field is
 -- they stop behind the word
-pub gathered-stop : (v k i : ℕ) (w : List ℕ) (x y : ℕ) → gathered_of v k i w ≡ Digits x y → i + length w ≡ y
+pub gathered-stop : (v k i : ℕ) (w : List ℕ) (x y : ℕ) → gathered_of v k i w ≡ Some (x, y) → i + length w ≡ y
 unfolding gathered_of
 gathered-stop v k i w x y e =
-    let t = cond_yes (leb (k + length w) 10 && all_digits w) (Digits (value_from v w) (i + length w)) {y = Bad} {z = Digits x y} (λ q. let z : ◌≡◌ {A = ℕ} 0 1 = cc in omega arith) e in
-    let f = t.1 in
-    cc
+    let t = cond_yes (leb (k + length w) 10 && all_digits w) (Some ((value_from v w), (i + length w))) {y = None} {z = Some (x, y)} (λ q. let z : ◌≡◌ {A = ℕ} 0 1 = cc in omega arith) e in
+    ap (λ (p : ℕ × ℕ). p.1) (same_Some _ _ t.1)
 
 module _ (low high start : ℕ) (w : List ℕ) (h : 1 ≤ length w) where
   whole : is_integer w ≡ leb (0 + length w) 10 && all_digits w
   unfolding is_integer
   whole = rw (le-leb 1 (length w) h, zero-add)
 
-  gathered-bad : gathered_of 0 0 start w ≡ Bad → integer_of low high w ≡ None
+  gathered-bad : gathered_of 0 0 start w ≡ None → integer_of low high w ≡ None
   unfolding gathered_of
   gathered-bad e =
-      sym (integer-bad low high w (whole ∙ cond_no (leb (0 + length w) 10 && all_digits w) Bad (λ q. let z : ◌≡◌ {A = ℕ} 0 1 = cc in omega arith) e))
+      sym (integer-bad low high w (whole ∙ cond_no (leb (0 + length w) 10 && all_digits w) None (λ q. let z : ◌≡◌ {A = ℕ} 0 1 = cc in omega arith) e))
 
-  gathered-good : (v stop : ℕ) → gathered_of 0 0 start w ≡ Digits v stop → (integer_of low high w ≡ in_range low high v) × (start + length w ≡ stop)
+  gathered-good : (v stop : ℕ) → gathered_of 0 0 start w ≡ Some (v, stop) → (integer_of low high w ≡ in_range low high v) × (start + length w ≡ stop)
   unfolding gathered_of
   gathered-good v stop e =
-      let t = cond_yes (leb (0 + length w) 10 && all_digits w) (Digits (value_of w) (start + length w)) {y = Bad} {z = Digits v stop} (λ q. let z : ◌≡◌ {A = ℕ} 0 1 = cc in omega arith) e in
-      let f = t.1 in
-      let x : value_of w ≡ v = cc in
+      let t = cond_yes (leb (0 + length w) 10 && all_digits w) (Some ((value_of w), (start + length w))) {y = None} {z = Some (v, stop)} (λ q. let z : ◌≡◌ {A = ℕ} 0 1 = cc in omega arith) e in
+      let x : value_of w ≡ v = ap (λ (p : ℕ × ℕ). p.0) (same_Some _ _ t.1) in
       (sym (integer-value low high w (whole ∙ t.0)) ∙ ap (in_range low high) x, gathered-stop 0 0 start w v stop e)
 
 -- ---- A column of an integer
@@ -223,10 +221,10 @@ module _ {line : List ℕ} {at start : ℕ} (t : WordThere line at start) (kind 
     refused : integer_of low high (word_at line start) ≡ None → (ks : List Kind) → row_from (kind ∷ ks) (fields_of (drop at line)) ≡ None
     refused e ks = row-integer ks ∙ with-bad _ _ (sym (integer-none kind (word_at line start) low high l h e))
 
-    pub took-bad : gathered_of 0 0 start (word_at line start) ≡ Bad → (ks : List Kind) → row_from (kind ∷ ks) (fields_of (drop at line)) ≡ None
+    pub took-bad : gathered_of 0 0 start (word_at line start) ≡ None → (ks : List Kind) → row_from (kind ∷ ks) (fields_of (drop at line)) ≡ None
     took-bad e = refused (gathered-bad low high start (word_at line start) t.some e)
 
-    module _ {v stop : ℕ} (e : gathered_of 0 0 start (word_at line start) ≡ Digits v stop) where
+    module _ {v stop : ℕ} (e : gathered_of 0 0 start (word_at line start) ≡ Some (v, stop)) where
       read : (integer_of low high (word_at line start) ≡ in_range low high v) × (start + length (word_at line start) ≡ stop)
       read = gathered-good low high start (word_at line start) t.some v stop e
 
@@ -236,9 +234,9 @@ module _ {line : List ℕ} {at start : ℕ} (t : WordThere line at start) (kind 
       pub took-high : high < v → (ks : List Kind) → row_from (kind ∷ ks) (fields_of (drop at line)) ≡ None
       took-high p = refused (read.0 ∙ sym (range-above low high v p))
 
-      pub took_one : (z : ℤ) → low ≤ v → v ≤ high → z ≡ signed_of false (min v largest) → CellIs line at kind (One z) 1 stop
+      pub took_one : (z : ℤ) → low ≤ v → v ≤ high → z ≡ signed_of false (min v largest) → CellIs line at kind (Some (One z)) 1 stop
       took_one z p q r =
-          let c : One z ≡ integer_cell kind (word_at line start) = integer-good kind (word_at line start) low high l h v z (read.0 ∙ sym (range-value low high v p q)) r in
+          let c : Some (One z) ≡ integer_cell kind (word_at line start) = integer-good kind (word_at line start) low high l h v z (read.0 ∙ sym (range-value low high v p q)) r in
           record {
             wide = one-wide kind (word_at line start) z (digits-cell kind d (word_at line start) ∙ sym c);
             rest = λ ks. rw (← read.1, c) (row-integer ks);

@@ -44,11 +44,11 @@ unfolding onto is_blank ends_field fields_of is_negative signed_of is_digit all_
 rows = next refl (next refl (next refl (next refl (next refl (next refl (next refl (next refl (next refl done))))))))
 
 -- the second line of "#", "1 100" with CR and LF, "2"
-second-line : line_row_of V13 Delay (35 ∷ 10 ∷ 49 ∷ 32 ∷ 49 ∷ 48 ∷ 48 ∷ 13 ∷ 10 ∷ 50 ∷ []) 2 ≡ record { good = true; cells = pos 6 ∷ pos 1 ∷ pos 100 ∷ replicate 9 (pos 0); next = 9 }
+second-line : line_row_of V13 Delay (35 ∷ 10 ∷ 49 ∷ 32 ∷ 49 ∷ 48 ∷ 48 ∷ 13 ∷ 10 ∷ 50 ∷ []) 2 ≡ record { row = Some (pos 6 ∷ pos 1 ∷ pos 100 ∷ replicate 9 (pos 0)); next = 9 }
 unfolding onto is_blank ends_field fields_of is_digit all_digits value_from in_range is_integer integer_of columns_of natural_cell integer_cell cell_of with row_from starts_lf bare_len pass_len bare_of line_at mark_of is_comment is_control any_control breaks_line padded row_is allowed_row placed_row line_row_of
 second-line = refl
 
 -- a comment that holds the byte 1
-comment-line : line_row_of V13 Delay (35 ∷ 1 ∷ 10 ∷ []) 0 ≡ record { good = false; cells = replicate 12 (pos 0); next = 3 }
+comment-line : line_row_of V13 Delay (35 ∷ 1 ∷ 10 ∷ []) 0 ≡ record { row = None; next = 3 }
 unfolding onto is_blank ends_field fields_of is_digit all_digits value_from in_range is_integer integer_of columns_of natural_cell integer_cell cell_of with row_from starts_lf bare_len pass_len bare_of line_at mark_of is_comment is_control any_control breaks_line row_is allowed_row placed_row line_row_of
 comment-line = refl

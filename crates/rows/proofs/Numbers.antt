@@ -1,4 +1,5 @@
 -- Numbers of a line read where it stands in a text: their digits gathered, and a column of a block. Assumes nothing.
+use Rattle.std.proofs.Common.{Option, Some}
 use Prim.Native.Nat.{ℕ, ◌+◌, ◌*◌, ◌-◌, ◌≤◌, ◌<◌, min}
 use mathlib.Core.Bool.{true, false}
 use mathlib.Core.List.{List, ◌∷◌}
@@ -20,8 +21,6 @@ use Rattle.rows.specs.Cells.{with, row_from}
 use Rattle.rows.specs.Inside.{by_digits, fits_column, word_at, CellIs, Along, WordIs, GatheredIs, NumberIs, ColumnIs}
 use Rattle.rows.specs.declared.Cell.{Cell}
 use Rattle.rows.specs.declared.Cell.TheVariants.{One}
-use Rattle.rows.specs.declared.Gathered.{Gathered}
-use Rattle.rows.specs.declared.Gathered.TheVariants.{Digits}
 use Rattle.rows.proofs.Along.{along-none, along_then, along-more, along-blanks, fields-blanks, left, byte_inside, byte-is, feed-long, blank-control}
 use Rattle.rows.proofs.Digits.{Gathering, begin, small, end, at-blank, turn, WordThere, word-begins, gathered-stop, took_one}
 
@@ -63,14 +62,14 @@ module _ {text : List ℕ} {start v i : ℕ} (g : Walking text start v i) where
         }
 
 -- what is said of an answer, of the answer that it is
-pub gathered-told : {text : List ℕ} {start v stop : ℕ} {r : Gathered} → GatheredIs text start r → r ≡ Digits v stop → WordIs text start v stop
+pub gathered-told : {text : List ℕ} {start v stop : ℕ} {r : (Option (ℕ × ℕ))} → GatheredIs text start r → r ≡ Some (v, stop) → WordIs text start v stop
 gathered-told h e = rw e at h
 
-pub column-told : {text : List ℕ} {at : ℕ} {kind : Kind} {v stop : ℕ} {r : Gathered} → ColumnIs text at kind r → r ≡ Digits v stop → NumberIs text at kind v stop
+pub column-told : {text : List ℕ} {at : ℕ} {kind : Kind} {v stop : ℕ} {r : (Option (ℕ × ℕ))} → ColumnIs text at kind r → r ≡ Some (v, stop) → NumberIs text at kind v stop
 column-told h e = rw e at h
 
 -- ---- A column: the same is taken from a line and from another one with the same fields there
-pub cell-move : {line other : List ℕ} {at place behind later : ℕ} {kind : Kind} {c : Cell} {width : ℕ} → fields_of (drop place other) ≡ fields_of (drop at line)
+pub cell-move : {line other : List ℕ} {at place behind later : ℕ} {kind : Kind} {c : (Option Cell)} {width : ℕ} → fields_of (drop place other) ≡ fields_of (drop at line)
     → fields_of (drop behind line) ≡ fields_of (drop later other) → CellIs line at kind c width behind → CellIs other place kind c width later
 cell-move {kind = kind} {c = c} p q t =
     record { wide = t.wide; rest = λ ks. ap (row_from (kind ∷ ks)) p ∙ t.rest ks ∙ ap (λ (fs : List (List ℕ)). with c (row_from ks fs)) q }
@@ -80,7 +79,7 @@ module _ {text : List ℕ} {start v stop : ℕ} (w : WordIs text start v stop) (
   first_word : WordThere (bare_of (drop start text)) 0 0
   first_word = word-begins (bare_of (drop start text)) 0 (let e = gathered-stop 0 0 0 (word_at (bare_of (drop start text)) 0) v (stop - start) (sym w.word) in omega arith)
 
-  first_cell : CellIs (bare_of (drop start text)) 0 kind (One (signed_of false (min v largest))) 1 (stop - start)
+  first_cell : CellIs (bare_of (drop start text)) 0 kind (Some (One (signed_of false (min v largest)))) 1 (stop - start)
   first_cell =
       let b = and_both (leb (least_of kind) v) (leb v (most_of kind)) f in
       took_one first_word kind d refl refl (sym w.word) (signed_of false (min v largest)) (leb-true (least_of kind) v b.0) (leb-true v (most_of kind) b.1) refl

@@ -21,7 +21,7 @@ use Rattle.rows.proofs.Rows.{row-absent, row-short, row_field}
 use Rattle.columns.specs.declared.Kind.{Kind}
 use Rattle.columns.specs.declared.Kind.TheVariants.{Id, Reference, Required, Micros, Duration, Count, Natural, Decimal as DecimalKind, Dwell, Absent}
 use Rattle.rows.specs.declared.Cell.{Cell}
-use Rattle.rows.specs.declared.Cell.TheVariants.{One, Two, Bad}
+use Rattle.rows.specs.declared.Cell.TheVariants.{One, Two}
 
 -- ---- What a field can be worth
 record NaturalIs (x : (Option ℕ)) (v : ℤ) : Type 0 where
@@ -29,12 +29,12 @@ record NaturalIs (x : (Option ℕ)) (v : ℤ) : Type 0 where
   read : x ≡ Some n
   same : v ≡ pos n
 
-natural-one : (x : (Option ℕ)) (v : ℤ) → natural_cell x ≡ One v → NaturalIs x v
+natural-one : (x : (Option ℕ)) (v : ℤ) → natural_cell x ≡ Some (One v) → NaturalIs x v
 unfolding natural_cell
 natural-one (Some n) v e = record { n = n; read = refl; same = cc }
 natural-one None v e = absurd (let z : ◌≡◌ {A = ℕ} 0 1 = cc in omega arith)
 
-natural-two : (x : (Option ℕ)) (a b : ℤ) → natural_cell x ≡ Two a b → ⊥
+natural-two : (x : (Option ℕ)) (a b : ℤ) → natural_cell x ≡ Some (Two a b) → ⊥
 unfolding natural_cell
 natural-two (Some n) a b e = let z : ◌≡◌ {A = ℕ} 0 1 = cc in omega arith
 natural-two None a b e = let z : ◌≡◌ {A = ℕ} 0 1 = cc in omega arith
@@ -47,14 +47,14 @@ pub record WholeIs (k : Kind) (v : ℤ) : Type 0 where
   pub least : least_of k ≤ n
   pub most : n ≤ most_of k
 
-integer-one : (k : Kind) (f : List ℕ) (v : ℤ) → is_whole k ≡ true → integer_cell k f ≡ One v → WholeIs k v
+integer-one : (k : Kind) (f : List ℕ) (v : ℤ) → is_whole k ≡ true → integer_cell k f ≡ Some (One v) → WholeIs k v
 unfolding integer_cell
 integer-one k f v w e =
     let x = natural-one (integer_of (least_of k) (most_of k) f) v e in
     let i = integer-inv (least_of k) (most_of k) f x.n x.read in
     record { n = x.n; same = x.same; whole = w; least = i.least; most = i.most }
 
-dwell-one : (x : (Option Decimal)) (v : ℤ) → dwell_cell x ≡ One v → WholeIs Dwell v
+dwell-one : (x : (Option Decimal)) (v : ℤ) → dwell_cell x ≡ Some (One v) → WholeIs Dwell v
 unfolding dwell_cell
 dwell-one (Some d) v e =
     let x = natural-one (whole_of d 0 1 1000000000) v e in
@@ -67,12 +67,12 @@ dwell-one (Some d) v e =
     }
 dwell-one None v e = absurd (let z : ◌≡◌ {A = ℕ} 0 1 = cc in omega arith)
 
-decimal-one : (x : (Option Decimal)) (v : ℤ) → decimal_cell x ≡ One v → ⊥
+decimal-one : (x : (Option Decimal)) (v : ℤ) → decimal_cell x ≡ Some (One v) → ⊥
 unfolding decimal_cell
 decimal-one (Some d) v e = let z : ◌≡◌ {A = ℕ} 0 1 = cc in omega arith
 decimal-one None v e = let z : ◌≡◌ {A = ℕ} 0 1 = cc in omega arith
 
-pub cell-one : (k : Kind) (f : List ℕ) (v : ℤ) → cell_of k f ≡ One v → WholeIs k v
+pub cell-one : (k : Kind) (f : List ℕ) (v : ℤ) → cell_of k f ≡ Some (One v) → WholeIs k v
 unfolding cell_of
 cell-one Id f v e = integer-one Id f v refl e
 cell-one Reference f v e = integer-one Reference f v refl e
@@ -90,16 +90,16 @@ pub record PairIs (k : Kind) (a b : ℤ) : Type 0 where
   pub decimal : k ≡ DecimalKind
   pub kept : Kept (record { mantissa = a; exponent = b })
 
-integer-two : (k : Kind) (f : List ℕ) (a b : ℤ) → integer_cell k f ≡ Two a b → ⊥
+integer-two : (k : Kind) (f : List ℕ) (a b : ℤ) → integer_cell k f ≡ Some (Two a b) → ⊥
 unfolding integer_cell
 integer-two k f a b e = natural-two (integer_of (least_of k) (most_of k) f) a b e
 
-dwell-two : (x : (Option Decimal)) (a b : ℤ) → dwell_cell x ≡ Two a b → ⊥
+dwell-two : (x : (Option Decimal)) (a b : ℤ) → dwell_cell x ≡ Some (Two a b) → ⊥
 unfolding dwell_cell
 dwell-two (Some d) a b e = natural-two (whole_of d 0 1 1000000000) a b e
 dwell-two None a b e = let z : ◌≡◌ {A = ℕ} 0 1 = cc in omega arith
 
-decimal-two : (f : List ℕ) (x : (Option Decimal)) (a b : ℤ) → decimal_of f ≡ x → decimal_cell x ≡ Two a b → PairIs DecimalKind a b
+decimal-two : (f : List ℕ) (x : (Option Decimal)) (a b : ℤ) → decimal_of f ≡ x → decimal_cell x ≡ Some (Two a b) → PairIs DecimalKind a b
 unfolding decimal_cell
 decimal-two f (Some d) a b h e =
     let p : d.mantissa ≡ a = cc in
@@ -107,7 +107,7 @@ decimal-two f (Some d) a b h e =
     record { decimal = refl; kept = rw (← p, ← q) (decimal-kept f d h) }
 decimal-two f None a b h e = absurd (let z : ◌≡◌ {A = ℕ} 0 1 = cc in omega arith)
 
-pub cell-two : (k : Kind) (f : List ℕ) (a b : ℤ) → cell_of k f ≡ Two a b → PairIs k a b
+pub cell-two : (k : Kind) (f : List ℕ) (a b : ℤ) → cell_of k f ≡ Some (Two a b) → PairIs k a b
 unfolding cell_of
 cell-two Id f a b e = absurd (integer-two Id f a b e)
 cell-two Reference f a b e = absurd (integer-two Reference f a b e)
@@ -142,17 +142,17 @@ record Behind (o : Option (List ℤ)) (lead vs : List ℤ) : Type 0 where
 no_row : (vs : List ℤ) → None ≡ Some vs → ⊥
 no_row vs e = let z : ◌≡◌ {A = ℕ} 0 1 = cc in omega arith
 
-with-one : (v : ℤ) (o : Option (List ℤ)) (vs : List ℤ) → with (One v) o ≡ Some vs → Behind o (v ∷ []) vs
+with-one : (v : ℤ) (o : Option (List ℤ)) (vs : List ℤ) → with (Some (One v)) o ≡ Some vs → Behind o (v ∷ []) vs
 unfolding with
 with-one v None vs e = absurd (no_row vs e)
 with-one v (Some us) vs e = record { rest = us; read = refl; same = cc }
 
-with_two : (a b : ℤ) (o : Option (List ℤ)) (vs : List ℤ) → with (Two a b) o ≡ Some vs → Behind o (a ∷ b ∷ []) vs
+with_two : (a b : ℤ) (o : Option (List ℤ)) (vs : List ℤ) → with (Some (Two a b)) o ≡ Some vs → Behind o (a ∷ b ∷ []) vs
 unfolding with
 with_two a b None vs e = absurd (no_row vs e)
 with_two a b (Some us) vs e = record { rest = us; read = refl; same = cc }
 
-with-bad : (o : Option (List ℤ)) (vs : List ℤ) → with Bad o ≡ Some vs → ⊥
+with-bad : (o : Option (List ℤ)) (vs : List ℤ) → with None o ≡ Some vs → ⊥
 unfolding with
 with-bad o vs e = no_row vs e
 
@@ -170,14 +170,14 @@ module _ (k : Kind) (ks : List Kind) (others : (fs : List (List ℕ)) (vs : List
       let w = with-one (pos 0) (row_from ks fs) vs (sym (row-absent k ks fs a) ∙ e) in
       rw (absent-is k a, w.same) (no_field (others fs w.rest w.read))
 
-  cell-range : (f : List ℕ) (fs : List (List ℕ)) (vs : List ℤ) (c : Cell) → cell_of k f ≡ c → with c (row_from ks fs) ≡ Some vs → InRange (k ∷ ks) vs
-  cell-range f fs vs (One v) h e =
+  cell-range : (f : List ℕ) (fs : List (List ℕ)) (vs : List ℤ) (c : (Option Cell)) → cell_of k f ≡ c → with c (row_from ks fs) ≡ Some vs → InRange (k ∷ ks) vs
+  cell-range f fs vs (Some (One v)) h e =
       let w = with-one v (row_from ks fs) vs e in
       one-range v (cell-one k f v h) w.same (others fs w.rest w.read)
-  cell-range f fs vs (Two a b) h e =
+  cell-range f fs vs (Some (Two a b)) h e =
       let w = with_two a b (row_from ks fs) vs e in
       two-range a b (cell-two k f a b h) w.same (others fs w.rest w.read)
-  cell-range f fs vs Bad h e = absurd (with-bad (row_from ks fs) vs e)
+  cell-range f fs vs None h e = absurd (with-bad (row_from ks fs) vs e)
 
   field-range : (fs : List (List ℕ)) (vs : List ℤ) → is_absent k ≡ false → row_from (k ∷ ks) fs ≡ Some vs → InRange (k ∷ ks) vs
   field-range [] vs a e = absurd (no_row vs (sym (row-short k ks a) ∙ e))

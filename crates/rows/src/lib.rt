@@ -1,12 +1,12 @@
 // Rows: a line read by the columns of its section into a row's twelve numbers, by itself or where it stands in a text.
 #![tactic(auto)]
 
-ghost use Rattle.std.specs.Prelude.{◌<◌, ◌≡◌, get_or, true, false};
+ghost use Rattle.std.specs.Prelude.{◌<◌, ◌≡◌, IfSome, get_or, true, false};
 ghost use Rattle.fields.specs.Fields.{fields_of};
 ghost use Rattle.decimals.specs.Decimal.{decimal_of};
 ghost use Rattle.columns.specs.Columns.{columns_of, is_absent, least_of, most_of};
 ghost use Rattle.rows.specs.Cells.{integer_cell, decimal_cell, dwell_cell, cell_of, row_from, row_is};
-ghost use Rattle.rows.specs.Placed.{placed_row, line_row_of};
+ghost use Rattle.rows.specs.Placed.{line_row_of};
 ghost use Rattle.rows.specs.Inside.{by_digits, word_at, gathered_of, TakenIs, fits_column, GatheredIs, ColumnIs};
 
 use columns::{Form, Kind};
@@ -17,36 +17,12 @@ use shape::Edition;
 pub enum Cell {
     One(i64),
     Two(i64, i64),
-    Bad,
 }
 
-// Digits of a line: what they are worth, and the place behind them.
-#[derive(Clone, Copy)]
-enum Gathered {
-    Digits(u64, usize),
-    Bad,
-}
-
-// What was taken from a line for a column, and the place behind it.
-#[derive(Clone, Copy)]
-enum Taken {
-    One(i64, usize),
-    Two(i64, i64, usize),
-    Bad,
-}
-
-// A line read as a row: whether it is one, and its numbers.
-#[derive(Clone, Copy)]
-pub struct Row {
-    pub good: bool,
-    pub cells: [i64; 12],
-}
-
-// A line of a section read as a row: whether it is one that may stand in a file, its numbers, and where the next line starts.
+// A line of a section read as a row: its numbers, if it is one that may stand in a file, and where the next line starts.
 #[derive(Clone, Copy)]
 pub struct RowLine {
-    pub good: bool,
-    pub cells: [i64; 12],
+    pub row: Option<[i64; 12]>,
     pub next: usize,
 }
 
@@ -58,16 +34,13 @@ fn least_of(kind: Kind) -> u64
     ensures { result ≡ least_of kind }
 {
     match kind {
-        Kind::Id => 1,
-        Kind::Reference => 0,
-        Kind::Required => 1,
-        Kind::Micros => 0,
-        Kind::Duration => 0,
-        Kind::Count => 1,
-        Kind::Natural => 0,
-        Kind::Decimal => 0,
-        Kind::Dwell => 1,
-        Kind::Absent => 0,
+        Kind::Id | Kind::Required | Kind::Count | Kind::Dwell => 1,
+        Kind::Reference
+        | Kind::Micros
+        | Kind::Duration
+        | Kind::Natural
+        | Kind::Decimal
+        | Kind::Absent => 0,
     }
 }
 
@@ -76,71 +49,47 @@ fn most_of(kind: Kind) -> u64
     ensures { result ≡ most_of kind }
 {
     match kind {
-        Kind::Id => LARGEST_ID,
-        Kind::Reference => LARGEST_ID,
-        Kind::Required => LARGEST_ID,
-        Kind::Micros => 1000000000,
-        Kind::Duration => 1000000000,
+        Kind::Id | Kind::Reference | Kind::Required | Kind::Natural => LARGEST_ID,
+        Kind::Micros | Kind::Duration | Kind::Dwell => 1000000000,
         Kind::Count => 1000000,
-        Kind::Natural => LARGEST_ID,
-        Kind::Decimal => 0,
-        Kind::Dwell => 1000000000,
-        Kind::Absent => 0,
+        Kind::Decimal | Kind::Absent => 0,
     }
 }
 
 // What an integer field is worth in a column.
-fn integer_cell(kind: Kind, field: &[u8]) -> Cell
+fn integer_cell(kind: Kind, field: &[u8]) -> Option<Cell>
     ensures { result ≡ integer_cell kind field.now }
 {
-    match numeral::read_integer(field, least_of(kind), most_of(kind)) {
-        Some(n) => Cell::One(signed::with_sign(false, n)),
-        None => Cell::Bad,
-    }
+    let n = numeral::read_integer(field, least_of(kind), most_of(kind))?;
+    Some(Cell::One(signed::with_sign(false, n)))
 }
 
 // What a decimal field is worth.
-fn decimal_cell(field: &[u8]) -> Cell
+fn decimal_cell(field: &[u8]) -> Option<Cell>
     ensures { result ≡ decimal_cell (decimal_of field.now) }
 {
-    match decimals::read_decimal(field) {
-        Some(d) => {
-            let m = d.mantissa;
-            let e = d.exponent;
-            Cell::Two(m, e)
-        }
-        None => Cell::Bad,
-    }
+    let d = decimals::read_decimal(field)?;
+    Some(Cell::Two(d.mantissa, d.exponent))
 }
 
 // What a dwell field is worth, in ns.
-fn dwell_cell(field: &[u8]) -> Cell
+fn dwell_cell(field: &[u8]) -> Option<Cell>
     ensures { result ≡ dwell_cell (decimal_of field.now) }
 {
-    match decimals::read_decimal(field) {
-        Some(d) => match numeral::whole_worth(d, 0, 1, 1000000000) {
-            Some(n) => Cell::One(signed::with_sign(false, n)),
-            None => Cell::Bad,
-        },
-        None => Cell::Bad,
-    }
+    let d = decimals::read_decimal(field)?;
+    let n = numeral::whole_worth(d, 0, 1, 1000000000)?;
+    Some(Cell::One(signed::with_sign(false, n)))
 }
 
 // What a field is worth in a column.
-pub fn cell_of(kind: Kind, field: &[u8]) -> Cell
+pub fn cell_of(kind: Kind, field: &[u8]) -> Option<Cell>
     ensures { result ≡ cell_of kind field.now }
 {
     match kind {
-        Kind::Id => integer_cell(Kind::Id, field),
-        Kind::Reference => integer_cell(Kind::Reference, field),
-        Kind::Required => integer_cell(Kind::Required, field),
-        Kind::Micros => integer_cell(Kind::Micros, field),
-        Kind::Duration => integer_cell(Kind::Duration, field),
-        Kind::Count => integer_cell(Kind::Count, field),
-        Kind::Natural => integer_cell(Kind::Natural, field),
         Kind::Decimal => decimal_cell(field),
         Kind::Dwell => dwell_cell(field),
-        Kind::Absent => Cell::Bad,
+        Kind::Absent => None,
+        _ => integer_cell(kind, field),
     }
 }
 
@@ -148,22 +97,11 @@ pub fn cell_of(kind: Kind, field: &[u8]) -> Cell
 fn by_digits(kind: Kind) -> bool
     ensures { result ≡ by_digits kind }
 {
-    match kind {
-        Kind::Id => true,
-        Kind::Reference => true,
-        Kind::Required => true,
-        Kind::Micros => true,
-        Kind::Duration => true,
-        Kind::Count => true,
-        Kind::Natural => true,
-        Kind::Decimal => false,
-        Kind::Dwell => false,
-        Kind::Absent => false,
-    }
+    !matches!(kind, Kind::Decimal | Kind::Dwell | Kind::Absent)
 }
 
-// Gathers the digits from a place on, up to a blank or the end of the line: at most 10, and nothing else.
-fn gather(line: &[u8], start: usize) -> Gathered
+// Gathers the digits from a place on, up to a blank or the end of the line: at most 10, and nothing else. What they are worth, and where they stop.
+fn gather(line: &[u8], start: usize) -> Option<(u64, usize)>
     ensures { result ≡ gathered_of 0 0 start (word_at line.now start) }
 {
     let mut v: u64 = 0;
@@ -172,47 +110,43 @@ fn gather(line: &[u8], start: usize) -> Gathered
         let b = line[i];
         if b < 48 {
             if text::is_blank(b) {
-                return Gathered::Digits(v, i);
+                return Some((v, i));
             }
-            return Gathered::Bad;
+            return None;
         }
         if 57 < b {
-            return Gathered::Bad;
+            return None;
         }
         if 9 < i - start {
-            return Gathered::Bad;
+            return None;
         }
         v = v * 10 + (b - 48) as u64;
         i += 1;
     }
-    Gathered::Digits(v, i)
+    Some((v, i))
 }
 
-// Takes the integer that a line holds for a column from a place on.
-fn take_integer(line: &[u8], at: usize, kind: Kind) -> Taken
+// Takes the integer that a line holds for a column from a place on, and the place behind it.
+fn take_integer(line: &[u8], at: usize, kind: Kind) -> Option<(Cell, usize)>
     requires { by_digits kind ≡ true }
     ensures { TakenIs line.now at kind result }
 {
     let start = text::skip(line, at);
     if line.len() <= start {
-        return Taken::Bad;
+        return None;
     }
-    match gather(line, start) {
-        Gathered::Digits(v, stop) => {
-            if v < least_of(kind) {
-                return Taken::Bad;
-            }
-            if most_of(kind) < v {
-                return Taken::Bad;
-            }
-            Taken::One(signed::with_sign(false, v), stop)
-        }
-        Gathered::Bad => Taken::Bad,
+    let (v, stop) = gather(line, start)?;
+    if v < least_of(kind) {
+        return None;
     }
+    if most_of(kind) < v {
+        return None;
+    }
+    Some((Cell::One(signed::with_sign(false, v)), stop))
 }
 
-// Takes the field that a line holds for a column from a place on.
-fn take_field(line: &[u8], at: usize, kind: Kind) -> Taken
+// Takes the field that a line holds for a column from a place on, and the place behind it.
+fn take_field(line: &[u8], at: usize, kind: Kind) -> Option<(Cell, usize)>
     requires { is_absent kind ≡ false }
     ensures { TakenIs line.now at kind result }
 {
@@ -220,85 +154,55 @@ fn take_field(line: &[u8], at: usize, kind: Kind) -> Taken
     let start = field.start;
     let stop = field.stop;
     if line.len() <= start {
-        return Taken::Bad;
+        return None;
     }
-    match cell_of(kind, &line[start..stop]) {
-        Cell::One(v) => Taken::One(v, stop),
-        Cell::Two(a, b) => Taken::Two(a, b, stop),
-        Cell::Bad => Taken::Bad,
-    }
+    let cell = cell_of(kind, &line[start..stop])?;
+    Some((cell, stop))
 }
 
-// Takes what a line holds for a column from a place on.
-fn take_cell(line: &[u8], at: usize, kind: Kind) -> Taken
+// Takes what a line holds for a column from a place on, and the place behind it.
+fn take_cell(line: &[u8], at: usize, kind: Kind) -> Option<(Cell, usize)>
     ensures { TakenIs line.now at kind result }
 {
     if by_digits(kind) {
         return take_integer(line, at, kind);
     }
     if columns::is_absent(kind) {
-        return Taken::One(0, at);
+        return Some((Cell::One(0), at));
     }
     take_field(line, at, kind)
 }
 
-// No row.
-fn bad_row() -> Row
-    ensures { result ≡ row_is Form.Block None }
-{
-    Row {
-        good: false,
-        cells: [0i64; 12],
-    }
-}
-
 // A line read as a row of a form: as many fields as its columns ask for, each of its form and range.
-pub fn read_row(edition: Edition, form: Form, line: &[u8]) -> Row
+pub fn read_row(edition: Edition, form: Form, line: &[u8]) -> Option<[i64; 12]>
     ensures { result ≡ row_is form (row_from (columns_of edition form) (fields_of line.now)) }
 {
     let mut cells = [0i64; 12];
-    let number = columns::form_number(form);
-    cells[0] = number;
+    cells[0] = columns::form_number(form);
     let count = columns::column_count(form, edition);
     let mut at: usize = 0;
     let mut w: usize = 1;
-    let mut j: usize = 0;
-    while j < count {
-        let kind = columns::kind_at(edition, form, j);
-        match take_cell(line, at, kind) {
-            Taken::One(v, behind) => {
+    for j in 0..count {
+        let (cell, behind) = take_cell(line, at, columns::kind_at(edition, form, j))?;
+        match cell {
+            Cell::One(v) => {
                 cells[w] = v;
                 w += 1;
                 at = behind;
-                j += 1;
             }
-            Taken::Two(a, b, behind) => {
+            Cell::Two(a, b) => {
                 cells[w] = a;
-                let x = w + 1;
-                cells[x] = b;
+                cells[w + 1] = b;
                 w += 2;
                 at = behind;
-                j += 1;
-            }
-            Taken::Bad => {
-                return bad_row();
             }
         }
     }
     let rest = fields::next_field(line, at);
     if rest.start < line.len() {
-        return bad_row();
+        return None;
     }
-    Row { good: true, cells }
-}
-
-// A row, and where the line behind it starts.
-fn placed(row: Row, next: usize) -> RowLine
-    ensures { result ≡ placed_row row next }
-{
-    let good = row.good;
-    let cells = row.cells;
-    RowLine { good, cells, next }
+    Some(cells)
 }
 
 // Does a number fit a column of a block that a field stands for?
@@ -321,8 +225,8 @@ fn fits_block(edition: Edition, j: usize, v: u64) -> bool
     v <= LARGEST_ID
 }
 
-// Gathers the digits of a text from a place on, up to a blank or the LF: at most 10, and nothing else.
-fn gather_line(text: &[u8], start: usize) -> Gathered
+// Gathers the digits of a text from a place on, up to a blank or the LF: at most 10, and nothing else. What they are worth, and where they stop.
+fn gather_line(text: &[u8], start: usize) -> Option<(u64, usize)>
     ensures { GatheredIs text.now start result }
 {
     let mut v: u64 = 0;
@@ -331,80 +235,63 @@ fn gather_line(text: &[u8], start: usize) -> Gathered
         let b = text[i];
         if b < 48 {
             if b == 10 {
-                return Gathered::Digits(v, i);
+                return Some((v, i));
             }
             if text::is_blank(b) {
-                return Gathered::Digits(v, i);
+                return Some((v, i));
             }
-            return Gathered::Bad;
+            return None;
         }
         if 57 < b {
-            return Gathered::Bad;
+            return None;
         }
         if 9 < i - start {
-            return Gathered::Bad;
+            return None;
         }
         v = v * 10 + (b - 48) as u64;
         i += 1;
     }
-    Gathered::Bad
+    None
 }
 
-// The number that a line of a text holds from a place on for a column of a block.
-fn block_number(edition: Edition, text: &[u8], at: usize, j: usize) -> Gathered
+// The number that a line of a text holds from a place on for a column of a block, and where it stops.
+fn block_number(edition: Edition, text: &[u8], at: usize, j: usize) -> Option<(u64, usize)>
     requires { j < 8 }
     ensures { ColumnIs text.now at (get_or (columns_of edition Form.Block) j Kind.Absent) result }
 {
     let start = text::skip(text, at);
-    match gather_line(text, start) {
-        Gathered::Digits(v, stop) => {
-            if stop <= start {
-                return Gathered::Bad;
-            }
-            if !fits_block(edition, j, v) {
-                return Gathered::Bad;
-            }
-            Gathered::Digits(v, stop)
-        }
-        Gathered::Bad => Gathered::Bad,
+    let (v, stop) = gather_line(text, start)?;
+    if stop <= start {
+        return None;
     }
+    if !fits_block(edition, j, v) {
+        return None;
+    }
+    Some((v, stop))
 }
 
-// A line of a text read as a block in one walk, if it is one as most are: what is not good here may still be a block.
-fn quick_block(edition: Edition, text: &[u8], at: usize) -> RowLine
-    ensures { result.good ≡ true → result ≡ line_row_of edition Form.Block text.now at }
+// A line of a text read as a block in one walk, if it is one as most are: what is not read here may still be a block.
+fn quick_block(edition: Edition, text: &[u8], at: usize) -> Option<RowLine>
+    ensures { IfSome result (λ r. r ≡ line_row_of edition Form.Block text.now at) }
 {
     let mut cells = [0i64; 12];
     cells[0] = 1;
     let mut i = at;
-    let mut j: usize = 0;
-    while j < 8 {
-        match block_number(edition, text, i, j) {
-            Gathered::Digits(v, stop) => {
-                let number = signed::with_sign(false, v);
-                j += 1;
-                cells[j] = number;
-                i = stop;
-            }
-            Gathered::Bad => {
-                return placed(bad_row(), at);
-            }
-        }
+    for j in 0..8 {
+        let (v, stop) = block_number(edition, text, i, j)?;
+        let number = signed::with_sign(false, v);
+        cells[j + 1] = number;
+        i = stop;
     }
     cells[9] = 0;
     let stop = text::skip(text, i);
-    if stop < text.len() {
-        if text[stop] == 10 {
-            if stop - at <= 1024 {
-                return RowLine {
-                    good: true,
-                    cells,
-                    next: stop + 1,
-                };
-            }
-        }
+    if text.len() <= stop || text[stop] != 10 || 1024 < stop - at {
+        return None;
     }
-    placed(bad_row(), at)
+    Some(RowLine {
+        row: Some(cells),
+        next: stop + 1,
+    })
 }
 
 // A line of a text cut off and read as a row; past the end of the text there is none.
@@ -413,16 +300,20 @@ fn cut_row(edition: Edition, form: Form, text: &[u8], at: usize) -> RowLine
 {
     let line = text::cut_line(text, at);
     let stop = line.stop;
+    let next = line.next;
     if !line.clean {
-        return placed(bad_row(), line.next);
+        return RowLine { row: None, next };
     }
     if text.len() < stop {
-        return placed(bad_row(), line.next);
+        return RowLine { row: None, next };
     }
     if 1024 < stop - at {
-        return placed(bad_row(), line.next);
+        return RowLine { row: None, next };
     }
-    placed(read_row(edition, form, &text[at..stop]), line.next)
+    RowLine {
+        row: read_row(edition, form, &text[at..stop]),
+        next,
+    }
 }
 
 // The line of a text that starts at a place, read as a row of a form.
@@ -430,8 +321,7 @@ pub fn line_row(edition: Edition, form: Form, text: &[u8], at: usize) -> RowLine
     ensures { result ≡ line_row_of edition form text.now at }
 {
     if let Form::Block = form {
-        let row = quick_block(edition, text, at);
-        if row.good {
+        if let Some(row) = quick_block(edition, text, at) {
             return row;
         }
     }

@@ -2,5 +2,5 @@
 use Rattle.grammar.proofs.ReadLines.{read-row}
 use Rattle.grammar.proofs.read_line.Goals as goal
 
-pub returns-then-row : goal.returns-then-row
-returns-then-row c = read-row _ _ _ _ _ _ c.in-Section.is c.in-Rows.is _ c.line_row-row.ensures c.if-row.true _ c.gave-did.ensures
+pub returns-in-Some : goal.returns-in-Some
+returns-in-Some c = read-row _ _ _ _ _ _ c.in-Section.is c.in-Rows.is _ c.line_row-line.ensures _ c.in-Some.is _ c.gave.ensures

@@ -3,8 +3,8 @@ use mathlib.Core.Path.{◌∙◌}
 use Rattle.grammar.proofs.Answers.{row-given, row-refused}
 use Rattle.grammar.proofs.row_step.Goals as goal
 
-pub returns-then-row : goal.returns-then-row
-returns-then-row c = let r = c.before.before.before in c.gave.ensures ∙ row-given _ _ _ _ _ r.read_row-row.ensures c.if-row.true
+pub returns-in-Some : goal.returns-in-Some
+returns-in-Some c = c.gave.ensures ∙ row-given _ _ _ _ _ c.read_row.ensures _ c.in-Some.is
 
-pub returns : goal.returns
-returns c = c.refused.ensures ∙ row-refused _ _ _ _ _ c.read_row-row.ensures c.if-row.false
+pub returns-in-None : goal.returns-in-None
+returns-in-None c = c.refused.ensures ∙ row-refused _ _ _ _ _ c.read_row.ensures c.in-None.is

@@ -1,19 +1,24 @@
 -- `rows::cut_row` meets its contract: what LINE refuses is no row, and no comment is one. Assumes nothing.
 use borrow.Author.Tests.{not-true, not-false}
+use mathlib.Core.Path.{refl}
+use Rattle.rows.specs.Placed.{placed_row}
 use Rattle.rows.proofs.CutRows.{cut_later, row-unclean, row-past, row-long, row_cut}
 use Rattle.rows.proofs.cut_row.Goals as goal
 
 pub returns-then-not-line : goal.returns-then-not-line
-returns-then-not-line c = row-unclean _ _ _ c.cut_line-line.ensures _ _ _ _ c.placed.ensures c.bad_row.ensures (not-true _ c.if-not-line.true)
+unfolding placed_row
+returns-then-not-line c = row-unclean _ _ _ c.cut_line-line.ensures _ _ _ _ refl refl (not-true _ c.if-not-line.true)
 
 pub returns-then-text-stop : goal.returns-then-text-stop
-returns-then-text-stop c = row-past _ _ _ c.cut_line-line.ensures _ _ _ _ c.placed-then-text-stop.ensures c.bad_row-then-text-stop.ensures c.if-text-stop.true
+unfolding placed_row
+returns-then-text-stop c = row-past _ _ _ c.cut_line-line.ensures _ _ _ _ refl refl c.if-text-stop.true
 
 pub overflow_sub-stop : goal.overflow_sub-stop
 overflow_sub-stop c = cut_later _ _ _ c.cut_line-line.ensures
 
 pub returns-then-stop-at-gt1024 : goal.returns-then-stop-at-gt1024
-returns-then-stop-at-gt1024 c = row-long _ _ _ c.cut_line-line.ensures _ _ _ _ c.placed-then-stop-at-gt1024.ensures c.if-text-stop.false c.bad_row-then-stop-at-gt1024.ensures c.if-stop-at-gt1024.true
+unfolding placed_row
+returns-then-stop-at-gt1024 c = row-long _ _ _ c.cut_line-line.ensures _ _ _ _ refl c.if-text-stop.false refl c.if-stop-at-gt1024.true
 
 pub slice_bounds-read_row-count : goal.slice_bounds-read_row-count
 slice_bounds-read_row-count c = cut_later _ _ _ c.cut_line-line.ensures
@@ -22,4 +27,5 @@ pub slice_bounds-read_row-start : goal.slice_bounds-read_row-start
 slice_bounds-read_row-start c = cut_later _ _ _ c.cut_line-line.ensures
 
 pub returns : goal.returns
-returns c = row_cut _ _ _ c.cut_line-line.ensures _ _ _ _ c.placed-2.ensures c.if-text-stop.false c.read_row.ensures (not-false _ c.if-not-line.false) c.if-stop-at-gt1024.false
+unfolding placed_row
+returns c = row_cut _ _ _ c.cut_line-line.ensures _ _ _ _ refl c.if-text-stop.false c.read_row.ensures (not-false _ c.if-not-line.false) c.if-stop-at-gt1024.false

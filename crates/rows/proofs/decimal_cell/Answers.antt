@@ -5,8 +5,8 @@ use Rattle.rows.proofs.Cells.{decimal-good, decimal-none}
 use borrow.Author.Rules.{rules}
 use Rattle.rows.proofs.decimal_cell.Goals as goal
 
-pub returns-in-Some : goal.returns-in-Some
-returns-in-Some c = decimal-good _ _ _ _ (sym c.read_decimal.ensures ∙ c.in-Some.is) (rd-at _ (search rules)) (rd-at _ (search rules))
+pub returns : goal.returns
+returns c = decimal-good _ _ _ _ (sym c.read_decimal.ensures ∙ c.in_ok-d.was) (rd-at _ (search rules)) (rd-at _ (search rules))
 
-pub returns-in-None : goal.returns-in-None
-returns-in-None c = decimal-none _ (sym c.read_decimal.ensures ∙ c.in-None.is)
+pub returns-in_err-d : goal.returns-in_err-d
+returns-in_err-d c = c.from_residual.ensures ∙ decimal-none _ (sym c.read_decimal.ensures ∙ c.in_err-d.was)

@@ -4,10 +4,10 @@ use Rattle.signed.proofs.Machine.{rd-at}
 use Rattle.rows.proofs.Cells.{integer-good, integer-none}
 use Rattle.rows.proofs.integer_cell.Goals as goal
 
-pub returns-in-Some : goal.returns-in-Some
-returns-in-Some c =
-    integer-good _ _ _ _ c.least_of.ensures c.most_of.ensures _ _ (sym c.read_integer.ensures ∙ c.in-Some.is) (rd-at _ c.with_sign.type_inv ∙ c.with_sign.ensures)
+pub returns : goal.returns
+returns c =
+    integer-good _ _ _ _ c.least_of.ensures c.most_of.ensures _ _ (sym c.read_integer.ensures ∙ c.in_ok-n.was) (rd-at _ c.with_sign.type_inv ∙ c.with_sign.ensures)
 
-pub returns-in-None : goal.returns-in-None
-returns-in-None c =
-    integer-none _ _ _ _ c.least_of.ensures c.most_of.ensures (sym c.read_integer.ensures ∙ c.in-None.is)
+pub returns-in_err-n : goal.returns-in_err-n
+returns-in_err-n c =
+    c.from_residual.ensures ∙ integer-none _ _ _ _ c.least_of.ensures c.most_of.ensures (sym c.read_integer.ensures ∙ c.in_err-n.was)

@@ -2,5 +2,5 @@
 use Rattle.rows.proofs.CutRows.{row_told}
 use Rattle.rows.proofs.line_row.Goals as goal
 
-pub returns-then-row : goal.returns-then-row
-returns-then-row c = row_told _ _ _ c.in-Block.is (c.quick_block-row.ensures c.if-row.true)
+pub returns-in-Some : goal.returns-in-Some
+returns-in-Some c = row_told _ _ _ c.in-Block.is c.in-Some.ensures

@@ -9,6 +9,10 @@ use Rattle.fields.specs.Fields.{fields_of, field_at}
 use Rattle.fields.specs.declared.Part.{Part}
 use Rattle.fields.proofs.Cut.{field-at, no_field}
 use Rattle.signed.proofs.Machine.{rd-at}
+use Rattle.std.proofs.Common.{Some}
+use Rattle.rows.specs.declared.Cell.{Cell}
+use Rattle.rows.specs.declared.Cell.TheVariants.{One, Two}
+use Rattle.rows.specs.Inside.{TakenIs}
 use Rattle.rows.specs.Cells.{cell_of, with, row_from}
 use Rattle.columns.specs.Columns.{is_absent}
 use Rattle.columns.specs.declared.Kind.{Kind}
@@ -20,6 +24,11 @@ module _ (Line : List ℕ) (At : ℕ) (Column : Kind) (r : Part) (e : r ≡ fiel
   present : (ks : List Kind)
       → row_from (Column ∷ ks) (fields_of (drop At Line)) ≡ with (cell_of Column (take (r.stop - r.start) (drop r.start Line))) (row_from ks (fields_of (drop r.stop Line)))
   present ks = rw (field-at Line At r e h).field (row_field Column ks _ _ q)
+
+  -- what was taken, one number or two
+  taken : (cell : Cell) → cell_of Column (take (r.stop - r.start) (drop r.start Line)) ≡ Some cell → TakenIs Line At Column (Some (cell, r.stop))
+  taken (One v) p = record { wide = one-wide _ _ _ p; rest = λ ks. present ks ∙ with-same _ _ _ p }
+  taken (Two a b) p = record { wide = two-wide _ _ _ _ p; rest = λ ks. present ks ∙ with-same _ _ _ p }
 
 pub returns-then-line-start : goal.returns-then-line-start
 returns-then-line-start c = λ ks. rw (no_field _ _ _ c.next_field-field.ensures c.if-line-start.true) (row-short _ ks c.requires)
@@ -33,16 +42,11 @@ slice_bounds-cell_of-start c = (field-at _ _ _ c.next_field-field.ensures c.if-l
 pub slice_bounds-cell_of-end : goal.slice_bounds-cell_of-end
 slice_bounds-cell_of-end c = (field-at _ _ _ c.next_field-field.ensures c.if-line-start.false).within
 
-pub returns-in-One : goal.returns-in-One
-returns-in-One c =
-    let e = sym c.cell_of.ensures ∙ c.in-One.is in
-    record { wide = one-wide _ _ _ e; rest = λ ks. rw (rd-at c.in-One.v (omega arith)) (present _ _ _ _ c.next_field-field.ensures c.if-line-start.false c.requires ks ∙ with-same _ _ _ e) }
+pub returns : goal.returns
+returns c =
+    taken c.args.line.now c.args.at c.args.kind _ c.next_field-field.ensures c.if-line-start.false c.requires c.in_ok-cell.cell (sym c.cell_of.ensures ∙ c.in_ok-cell.was)
 
-pub returns-in-Two : goal.returns-in-Two
-returns-in-Two c =
-    let e = sym c.cell_of.ensures ∙ c.in-Two.is in
-    record { wide = two-wide _ _ _ _ e; rest = λ ks. rw (rd-at c.in-Two.a (omega arith), rd-at c.in-Two.b (omega arith)) (present _ _ _ _ c.next_field-field.ensures c.if-line-start.false c.requires ks ∙ with-same _ _ _ e) }
-
-pub returns-in-Bad : goal.returns-in-Bad
-returns-in-Bad c =
-    λ ks. present _ _ _ _ c.next_field-field.ensures c.if-line-start.false c.requires ks ∙ with-bad _ _ (sym c.cell_of.ensures ∙ c.in-Bad.is)
+pub returns-in_err-cell : goal.returns-in_err-cell
+returns-in_err-cell c =
+    rw c.from_residual.ensures
+    (λ ks. present _ _ _ _ c.next_field-field.ensures c.if-line-start.false c.requires ks ∙ with-bad _ _ (sym c.cell_of.ensures ∙ c.in_err-cell.was))

@@ -10,18 +10,18 @@ returns-then-line-start c = λ ks. rw (none-there _ _ _ c.skip-start.ensures c.i
 
 pub returns-then-v-least_of : goal.returns-then-v-least_of
 returns-then-v-least_of c =
-    took-low (word-there _ _ _ c.skip-start.ensures c.if-line-start.false) _ c.requires c.least_of.ensures refl (sym c.gather.ensures ∙ c.in-Digits.is) c.if-v-least_of.true
+    took-low (word-there _ _ _ c.skip-start.ensures c.if-line-start.false) _ c.requires c.least_of.ensures refl (sym c.gather.ensures ∙ c.in_ok-v.was) c.if-v-least_of.true
 
 pub returns-then-most_of-v : goal.returns-then-most_of-v
 returns-then-most_of-v c =
-    took-high (word-there _ _ _ c.skip-start.ensures c.if-line-start.false) _ c.requires refl c.most_of.ensures (sym c.gather.ensures ∙ c.in-Digits.is) c.if-most_of-v.true
+    took-high (word-there _ _ _ c.skip-start.ensures c.if-line-start.false) _ c.requires refl c.most_of.ensures (sym c.gather.ensures ∙ c.in_ok-v.was) c.if-most_of-v.true
 
-pub returns-else-most_of-v : goal.returns-else-most_of-v
-returns-else-most_of-v c =
+pub returns : goal.returns
+returns c =
     let l = c.least_of.ensures in
     let h = c.most_of.ensures in
-    took_one (word-there _ _ _ c.skip-start.ensures c.if-line-start.false) _ c.requires l h (sym c.gather.ensures ∙ c.in-Digits.is) _ c.if-v-least_of.false c.if-most_of-v.false (rd-at _ c.with_sign.type_inv ∙ c.with_sign.ensures)
+    took_one (word-there _ _ _ c.skip-start.ensures c.if-line-start.false) _ c.requires l h (sym c.gather.ensures ∙ c.in_ok-v.was) _ c.if-v-least_of.false c.if-most_of-v.false (rd-at _ c.with_sign.type_inv ∙ c.with_sign.ensures)
 
-pub returns-in-Bad : goal.returns-in-Bad
-returns-in-Bad c =
-    took-bad (word-there _ _ _ c.skip-start.ensures c.if-line-start.false) _ c.requires refl refl (sym c.gather.ensures ∙ c.in-Bad.is)
+pub returns-in_err-v : goal.returns-in_err-v
+returns-in_err-v c =
+    rw c.from_residual.ensures (took-bad (word-there _ _ _ c.skip-start.ensures c.if-line-start.false) _ c.requires refl refl (sym c.gather.ensures ∙ c.in_err-v.was))
