@@ -3,4 +3,5 @@ pub mod Whole
 pub mod Outcome
 pub mod Rows
 pub mod Marks
+pub mod Steps
 pub mod Inside

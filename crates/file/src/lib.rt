@@ -1,9 +1,10 @@
 // A whole file, line by line: its rows with their lines, or the first fault; and where the sections begin that are sought again.
 #![tactic(auto)]
 
-ghost use Rattle.std.specs.Prelude.{◌≡◌, []};
+ghost use Rattle.std.specs.Prelude.{◌≡◌, ◌≤◌, []};
 ghost use Rattle.file.specs.Whole.{judged, ended, is_fault, row_count};
 ghost use Rattle.file.specs.Rows.{row_at, rows_of, line_of, laid_row, answer_of, Scanning};
+ghost use Rattle.file.specs.Steps.{SteppedOn};
 ghost use Rattle.file.specs.Marks.{walk_start, Marking};
 ghost use Rattle.file.specs.Inside.{Laid, is_met};
 
@@ -35,6 +36,27 @@ pub struct Walk {
     pub at: usize,
     pub lines: usize,
     pub state: State,
+}
+
+impl Walk {
+    // The line at which a walk stands and what it gives there; the walk goes on behind it. None at the end of the file.
+    pub fn step<'a>(&mut self, file: &'a [u8]) -> Option<(&'a [u8], Stepped)>
+        requires { self.old.lines ≤ self.old.at }
+        ensures { SteppedOn file.now self.old result self.new }
+    {
+        let at = self.at;
+        if file.len() <= at {
+            return None;
+        }
+        let cut = text::next_line(file, at);
+        let line = &file[at..cut.stop];
+        let number = self.lines + 1;
+        let did = grammar::step(self.state, number, line);
+        self.at = cut.next;
+        self.lines = number;
+        self.state = did.next;
+        Some((line, did))
+    }
 }
 
 // What reading all lines answers, and where the walk stands that first met EXTENSIONS, and SHAPES; at the front of the file if it never did.

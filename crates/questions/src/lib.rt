@@ -63,24 +63,14 @@ fn gives_block(did: Stepped) -> bool
 pub fn has_block(file: &[u8]) -> bool
     ensures { result ≡ any_block (rows_of file.now) }
 {
-    let mut st = places::start();
-    let mut at: usize = 0;
-    let mut n: usize = 1;
-    while at < file.len() {
-        let line = text::next_line(file, at);
-        let stop = line.stop;
-        let did = grammar::step(st, n, &file[at..stop]);
-        let found = did.found;
-        if file::is_fault(found) {
+    let mut walk = file::walk_start();
+    while let Some((_, did)) = walk.step(file) {
+        if file::is_fault(did.found) {
             return false;
         }
         if gives_block(did) {
             return true;
         }
-        n += 1;
-        at = line.next;
-        let next = did.next;
-        st = next;
     }
     false
 }
