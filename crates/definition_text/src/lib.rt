@@ -37,22 +37,12 @@ fn put_own(out: &mut [u8], at: usize, file: &[u8]) -> usize
     ensures { Put out.old at (definition_lines (definitions_of file.now)) result out.new }
 {
     let mut place = at;
-    let mut st = places::start();
-    let mut from: usize = 0;
-    let mut n: usize = 1;
-    while from < file.len() {
-        let line = text::next_line(file, from);
-        let stop = line.stop;
-        let did = grammar::step(st, n, &file[from..stop]);
-        let found = did.found;
-        if file::is_fault(found) {
+    let mut walk = file::walk_start();
+    while let Some((line, did)) = walk.step(file) {
+        if file::is_fault(did.found) {
             return place;
         }
-        place = put_found(out, place, found, &file[from..stop]);
-        n += 1;
-        from = line.next;
-        let next = did.next;
-        st = next;
+        place = put_found(out, place, did.found, line);
     }
     place
 }
@@ -86,24 +76,14 @@ fn put_added(out: &mut [u8], at: usize, target: Edition, file: &[u8], site: &[u8
 fn has_own(file: &[u8]) -> bool
     ensures { result ≡ ltb 0 (length (definitions_of file.now)) }
 {
-    let mut st = places::start();
-    let mut at: usize = 0;
-    let mut n: usize = 1;
-    while at < file.len() {
-        let line = text::next_line(file, at);
-        let stop = line.stop;
-        let did = grammar::step(st, n, &file[at..stop]);
-        let found = did.found;
-        if file::is_fault(found) {
+    let mut walk = file::walk_start();
+    while let Some((_, did)) = walk.step(file) {
+        if file::is_fault(did.found) {
             return false;
         }
-        if definitions::is_defined(found) {
+        if definitions::is_defined(did.found) {
             return true;
         }
-        n += 1;
-        at = line.next;
-        let next = did.next;
-        st = next;
     }
     false
 }

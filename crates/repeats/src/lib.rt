@@ -28,29 +28,18 @@ fn gives_row(did: Stepped, class: i64, id: i64) -> bool
     tables::is_row_of(&cells, 0, class, id)
 }
 
-// The line of the first row from a place on that is of the class and has the ID; 0 if none is.
-fn line_having(file: &[u8], from: usize, state: State, number: usize, class: i64, id: i64) -> usize
-    requires { number ≤ from + 1 }
-    ensures { result ≡ next_row class id (rows_from state number (lines_of (drop from file.now))) }
+// The line of the first row of a file that is of the class and has the ID; 0 if none is.
+fn line_having(file: &[u8], class: i64, id: i64) -> usize
+    ensures { result ≡ next_row class id (rows_of file.now) }
 {
-    let mut st = state;
-    let mut at = from;
-    let mut n = number;
-    while at < file.len() {
-        let line = text::next_line(file, at);
-        let stop = line.stop;
-        let did = grammar::step(st, n, &file[at..stop]);
-        let found = did.found;
-        if file::is_fault(found) {
+    let mut walk = file::walk_start();
+    while let Some((_, did)) = walk.step(file) {
+        if file::is_fault(did.found) {
             return 0;
         }
         if gives_row(did, class, id) {
             return did.line;
         }
-        n += 1;
-        at = line.next;
-        let next = did.next;
-        st = next;
     }
     0
 }
@@ -73,22 +62,12 @@ fn note_row(most: &mut [i64], did: Stepped)
 fn note_rows(most: &mut [i64], file: &[u8])
     ensures { Noted (class_no (rows_of file.now)) (id_no (rows_of file.now)) most.new (length (rows_of file.now)) }
 {
-    let mut st = places::start();
-    let mut at: usize = 0;
-    let mut n: usize = 1;
-    while at < file.len() {
-        let line = text::next_line(file, at);
-        let stop = line.stop;
-        let did = grammar::step(st, n, &file[at..stop]);
-        let found = did.found;
-        if file::is_fault(found) {
+    let mut walk = file::walk_start();
+    while let Some((_, did)) = walk.step(file) {
+        if file::is_fault(did.found) {
             return;
         }
         note_row(most, did);
-        n += 1;
-        at = line.next;
-        let next = did.next;
-        st = next;
     }
 }
 
@@ -109,23 +88,13 @@ fn open_count(most: &[i64], did: Stepped) -> usize
 
 // How many rows of open classes a file has, for the choice of parts.
 fn count_open(most: &[i64], file: &[u8]) -> usize {
-    let mut st = places::start();
-    let mut at: usize = 0;
-    let mut n: usize = 1;
+    let mut walk = file::walk_start();
     let mut count: usize = 0;
-    while at < file.len() {
-        let line = text::next_line(file, at);
-        let stop = line.stop;
-        let did = grammar::step(st, n, &file[at..stop]);
-        let found = did.found;
-        if file::is_fault(found) {
+    while let Some((_, did)) = walk.step(file) {
+        if file::is_fault(did.found) {
             return count;
         }
         count += open_count(most, did);
-        n += 1;
-        at = line.next;
-        let next = did.next;
-        st = next;
     }
     count
 }
@@ -134,7 +103,7 @@ fn count_open(most: &[i64], file: &[u8]) -> usize {
 fn stood_before(file: &[u8], line: usize, class: i64, id: i64) -> bool
     ensures { result ≡ ltb (next_row class id (rows_of file.now)) line }
 {
-    line_having(file, 0, places::start(), 1, class, id) < line
+    line_having(file, class, id) < line
 }
 
 // Keeps a row of this line by its number. Does one of the class with the ID stand before? None does if the number is new; else it is looked for.
@@ -189,25 +158,15 @@ fn gives_again(
 fn first_kept(set: &mut [u64], most: &[i64], file: &[u8], parts: u64, part: u64) -> usize
     ensures { FirstLine (AskedAgain row_line no_row same_row (in_part row_number (row_open most.now) parts part) (rows_of file.now)) result }
 {
-    let mut st = places::start();
-    let mut at: usize = 0;
-    let mut n: usize = 1;
-    while at < file.len() {
-        let line = text::next_line(file, at);
-        let stop = line.stop;
-        let did = grammar::step(st, n, &file[at..stop]);
-        let found = did.found;
-        if file::is_fault(found) {
+    let mut walk = file::walk_start();
+    while let Some((_, did)) = walk.step(file) {
+        if file::is_fault(did.found) {
             return 0;
         }
         let row = did.line;
         if gives_again(set, most, file, did, parts, part) {
             return row;
         }
-        n += 1;
-        at = line.next;
-        let next = did.next;
-        st = next;
     }
     0
 }

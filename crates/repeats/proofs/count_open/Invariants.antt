@@ -1,11 +1,12 @@
 -- `repeats::count_open` meets its contract. The loop counts no more rows than lines. Assumes nothing.
-use Rattle.file.proofs.Walking.{Within}
+use Prim.Native.Nat.{suc, ◌-◌}
 use lib.ListN.{length}
-use Prim.Native.Nat.{◌-◌, ◌<◌}
+use Prim.Native.Nat.{◌≤◌}
+use Rattle.file.proofs.Walking.{Within}
 use Rattle.repeats.proofs.count_open.Given as goal
 
-abbrev pub invariant-loop-at : goal.invariant-loop-at
-invariant-loop-at l = Within l.file l.at l.n × (l.count < l.n)
+abbrev pub invariant-loop-did : goal.invariant-loop-did
+invariant-loop-did l = Within l.file l.walk.at (suc l.walk.lines) × (l.count ≤ l.walk.lines)
 
-abbrev pub decreases-loop-at : goal.decreases-loop-at
-decreases-loop-at l = length l.file - l.at
+abbrev pub decreases-loop-did : goal.decreases-loop-did
+decreases-loop-did l = length l.file - l.walk.at
