@@ -15,7 +15,7 @@ use places::{Found, State, Stepped};
 use sets::Kept;
 
 // The two sorts of words that may stand once in a file: keys of definitions, and names of extensions.
-#[derive(Clone, Copy)]
+#[derive(Clone, Copy, PartialEq, Eq)]
 pub enum Sort {
     Key,
     Name,
@@ -78,13 +78,8 @@ fn names(line: &[u8], did: Stepped, sort: Sort, word: &[u8]) -> bool
     ensures { result ≡ names_word line.now (once_of did) sort word.now }
 {
     match once_of(did) {
+        Some(own) => own == sort && text::same(word_of(line, own), word),
         None => false,
-        Some(own) => {
-            if sort_number(own) == sort_number(sort) {
-                return text::same(word_of(line, own), word);
-            }
-            false
-        }
     }
 }
 
@@ -129,39 +124,21 @@ fn words_ahead(st: State, at: usize, names: usize) -> Ahead
     Ahead::Here
 }
 
-// The first line from a place on that names the word; 0 if none does. Nothing is read behind the section of such words.
-fn line_naming(
-    file: &[u8],
-    from: usize,
-    state: State,
-    number: usize,
-    sort: Sort,
-    word: &[u8],
-) -> usize
-    requires { number ≤ from + 1 }
-    ensures { result ≡ next_line sort word.now (words_from state number (lines_of (drop from file.now))) }
+// The first line of a file that names the word; 0 if none does. Nothing is read behind the section of such words.
+fn line_naming(file: &[u8], sort: Sort, word: &[u8]) -> usize
+    ensures { result ≡ next_line sort word.now (words_of file.now) }
 {
-    let mut st = state;
-    let mut at = from;
-    let mut n = number;
-    while at < file.len() {
-        if is_left(st, sort) {
+    let mut walk = file::walk_start();
+    while !is_left(walk.state, sort) {
+        let Some((line, did)) = walk.step(file) else {
+            return 0;
+        };
+        if file::is_fault(did.found) {
             return 0;
         }
-        let line = text::next_line(file, at);
-        let stop = line.stop;
-        let did = grammar::step(st, n, &file[at..stop]);
-        let found = did.found;
-        if file::is_fault(found) {
-            return 0;
+        if names(line, did, sort, word) {
+            return walk.lines;
         }
-        if names(&file[at..stop], did, sort, word) {
-            return n;
-        }
-        n += 1;
-        at = line.next;
-        let next = did.next;
-        st = next;
     }
     0
 }
@@ -177,7 +154,7 @@ fn number_of(sort: Sort, word: &[u8]) -> u64
 fn stood_before(file: &[u8], line: usize, sort: Sort, word: &[u8]) -> bool
     ensures { result ≡ ltb (next_line sort word.now (words_of file.now)) line }
 {
-    line_naming(file, 0, places::start(), 1, sort, word) < line
+    line_naming(file, sort, word) < line
 }
 
 // Keeps a word that stands on this line by its number. Does a line before name it? None does if the number is new; else it is looked for.

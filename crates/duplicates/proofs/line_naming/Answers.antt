@@ -1,56 +1,47 @@
-use Prim.Native.Nat.{◌-◌}
 use mathlib.Core.Path.{refl, sym, ◌∙◌}
 use native.Mathlib.Omega.{arith}
-use Rattle.text.proofs.Cut.{LineAt, line-at}
-use Rattle.duplicates.proofs.Seeking.{seek-fault, seek_hit, seek-turn, seek-end}
+use Rattle.duplicates.specs.Words.{word_at, words_of, next_line}
+use Rattle.file.proofs.Stepping.{from-front, cut-there, gave-there, nearer, carried}
+use Rattle.duplicates.proofs.Seeking.{SeekWalk, seek-fault, seek_hit, seek-turn, seek-end}
 use Rattle.duplicates.proofs.Naming.{naming-hit, naming-miss, no-next}
 use Rattle.duplicates.proofs.Beyond.{nothing-beyond}
-use Rattle.duplicates.proofs.line_naming.Goals.{After-next_line-line}
 use Rattle.duplicates.proofs.line_naming.Goals as goal
 
--- the line that starts here
-here : (c : After-next_line-line) → LineAt c.args.file.now c.loop-at.at c.next_line-line.result
-here c = line-at _ _ _ c.next_line-line.ensures (omega arith)
+pub loop-sort-init : goal.loop-sort-init
+unfolding words_of
+loop-sort-init c =
+    let a = c.args in
+    from-front (SeekWalk word_at (next_line a.sort a.word.now) a.file.now (next_line a.sort a.word.now (words_of a.file.now))) _ c.walk_start-walk.ensures
+    (record { number = omega arith; same = refl })
 
-pub loop-at-init : goal.loop-at-init
-loop-at-init c = record { number = c.requires; same = refl }
+pub step-requires : goal.step-requires
+step-requires c = omega (arith, c.loop-sort.invariant.number)
 
-pub returns-then-is_left : goal.returns-then-is_left
-returns-then-is_left c = nothing-beyond _ _ _ _ _ (sym c.is_left.ensures ∙ c.if-is_left.true) ∙ c.loop-at.invariant.same
-
-pub slice_bounds-step-count : goal.slice_bounds-step-count
-slice_bounds-step-count c = (here c).ordered
-
-pub slice_bounds-step-start : goal.slice_bounds-step-start
-slice_bounds-step-start c = (here c).ordered
-
-pub slice_bounds-step-end : goal.slice_bounds-step-end
-slice_bounds-step-end c = (here c).within
+pub returns-in_default : goal.returns-in_default
+returns-in_default c = seek-end c.loop-sort.invariant (no-next _ _) c.in_default.ensures.0
 
 pub returns-then-is_fault : goal.returns-then-is_fault
-returns-then-is_fault c = seek-fault c.loop-at.invariant _ (here (goal.at.returns-then-is_fault c).After-next_line-line) _ c.step-did.ensures (no-next _ _) (sym c.is_fault.ensures ∙ c.if-is_fault.true)
-
-pub slice_bounds-names-count : goal.slice_bounds-names-count
-slice_bounds-names-count c = (here (goal.at.slice_bounds-names-count c).After-next_line-line).ordered
-
-pub slice_bounds-names-start : goal.slice_bounds-names-start
-slice_bounds-names-start c = (here (goal.at.slice_bounds-names-start c).After-next_line-line).ordered
-
-pub slice_bounds-names-end : goal.slice_bounds-names-end
-slice_bounds-names-end c = (here (goal.at.slice_bounds-names-end c).After-next_line-line).within
+returns-then-is_fault c =
+    let s = c.in-Some.ensures in
+    seek-fault c.loop-sort.invariant _ (cut-there s) _ (gave-there s) (no-next _ _) (sym c.is_fault.ensures ∙ c.if-is_fault.true)
 
 pub returns-then-names : goal.returns-then-names
-returns-then-names c = seek_hit c.loop-at.invariant _ (here (goal.at.returns-then-names c).After-next_line-line) _ c.step-did.ensures (sym c.is_fault.ensures ∙ c.if-is_fault.false) _ (λ rest. naming-hit _ _ _ _ _ _ c.names.ensures rest c.if-names.true)
+returns-then-names c =
+    let s = c.in-Some.ensures in
+    rw s.behind
+    (seek_hit c.loop-sort.invariant _ (cut-there s) _ (gave-there s) (sym c.is_fault.ensures ∙ c.if-is_fault.false) _
+    (λ rest. naming-hit _ _ _ _ _ _ (rw s.cut at c.names.ensures) rest c.if-names.true))
 
-pub overflow_add-n : goal.overflow_add-n
-overflow_add-n c = let w = c.loop-at.invariant in
-    omega (arith, w.number, (here (goal.at.overflow_add-n c).After-next_line-line).further, (here (goal.at.overflow_add-n c).After-next_line-line).inside)
+pub loop-sort-smaller : goal.loop-sort-smaller
+loop-sort-smaller c = nearer c.in-Some.ensures
 
-pub loop-at-smaller : goal.loop-at-smaller
-loop-at-smaller c = omega (arith, (here (goal.at.loop-at-smaller c).After-next_line-line).further, (here (goal.at.loop-at-smaller c).After-next_line-line).inside)
-
-pub loop-at-preserved : goal.loop-at-preserved
-loop-at-preserved c = seek-turn c.loop-at.invariant _ (here (goal.at.loop-at-preserved c).After-next_line-line) _ c.step-did.ensures (sym c.is_fault.ensures ∙ c.if-is_fault.false) (λ rest. naming-miss _ _ _ _ _ _ c.names.ensures rest c.if-names.false)
+pub loop-sort-preserved : goal.loop-sort-preserved
+loop-sort-preserved c =
+    let s = c.in-Some.ensures in
+    let a = c.args in
+    carried s (SeekWalk word_at (next_line a.sort a.word.now) a.file.now (next_line a.sort a.word.now (words_of a.file.now)))
+    (seek-turn c.loop-sort.invariant _ (cut-there s) _ (gave-there s) (sym c.is_fault.ensures ∙ c.if-is_fault.false)
+    (λ rest. naming-miss _ _ _ _ _ _ (rw s.cut at c.names.ensures) rest c.if-names.false))
 
 pub returns : goal.returns
-returns c = seek-end c.loop-at.invariant (no-next _ _) c.loop-at-test.false
+returns c = nothing-beyond _ _ _ _ _ (sym c.is_left.ensures ∙ c.loop-sort-test.false) ∙ c.loop-sort.invariant.same
