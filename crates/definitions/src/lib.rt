@@ -13,26 +13,21 @@ use fields::Part;
 use places::{Fault, Found};
 use text::Mark;
 
+// Where a value stands that is not defined.
+const NOWHERE: Part = Part { start: 0, stop: 0 };
+
 // Is this a definition?
 pub fn is_defined(found: Found) -> bool
     ensures { result ≡ is_defined found }
 {
-    match found {
-        Found::Nothing => false,
-        Found::Row => false,
-        Found::Definition => true,
-        Found::Fault(_) => false,
-    }
+    matches!(found, Found::Definition)
 }
 
 // Is this line, which gave what was found, a definition of the key?
 fn defines(line: &[u8], found: Found, key: &[u8]) -> bool
     ensures { result ≡ is_defined found && same_bytes (key_of line.now) key.now }
 {
-    if is_defined(found) {
-        return text::same(fields::field(line, 0), key);
-    }
-    false
+    is_defined(found) && text::same(fields::field(line, 0), key)
 }
 
 // Where the value stands of a line that stands in a text.
@@ -52,29 +47,20 @@ fn value_place(text: &[u8], at: usize, stop: usize) -> Part
 pub fn file_place(file: &[u8], key: &[u8]) -> Part
     ensures { result ≡ file_place file.now key.now }
 {
-    let mut st = places::start();
-    let mut at: usize = 0;
-    let mut n: usize = 1;
-    while at < file.len() {
-        if passing::left_definitions(st) {
-            return Part { start: 0, stop: 0 };
+    let mut walk = file::walk_start();
+    while !passing::left_definitions(walk.state) {
+        let at = walk.at;
+        let Some((line, did)) = walk.step(file) else {
+            return NOWHERE;
+        };
+        if file::is_fault(did.found) {
+            return NOWHERE;
         }
-        let line = text::next_line(file, at);
-        let stop = line.stop;
-        let did = grammar::step(st, n, &file[at..stop]);
-        let found = did.found;
-        if file::is_fault(found) {
-            return Part { start: 0, stop: 0 };
+        if defines(line, did.found, key) {
+            return value_place(file, at, at + line.len());
         }
-        if defines(&file[at..stop], found, key) {
-            return value_place(file, at, stop);
-        }
-        n += 1;
-        at = line.next;
-        let next = did.next;
-        st = next;
     }
-    Part { start: 0, stop: 0 }
+    NOWHERE
 }
 
 // The value of a key in a file; empty if it is not defined there.
@@ -82,9 +68,7 @@ pub fn file_definition<'a>(file: &'a [u8], key: &[u8]) -> &'a [u8]
     ensures { result.now ≡ sought key.now (definitions_of file.now) }
 {
     let place = file_place(file, key);
-    let start = place.start;
-    let stop = place.stop;
-    &file[start..stop]
+    &file[place.start..place.stop]
 }
 
 // What a line of a site's definitions is.
@@ -117,14 +101,14 @@ pub fn site_place(site: &[u8], key: &[u8]) -> Part
         let stop = line.stop;
         let found = site_line(&site[at..stop]);
         if file::is_fault(found) {
-            return Part { start: 0, stop: 0 };
+            return NOWHERE;
         }
         if defines(&site[at..stop], found, key) {
             return value_place(site, at, stop);
         }
         at = line.next;
     }
-    Part { start: 0, stop: 0 }
+    NOWHERE
 }
 
 // The value of a key in a site's definitions; empty if it is not defined there.
@@ -132,19 +116,14 @@ pub fn site_definition<'a>(site: &'a [u8], key: &[u8]) -> &'a [u8]
     ensures { result.now ≡ sought key.now (site_definitions site.now) }
 {
     let place = site_place(site, key);
-    let start = place.start;
-    let stop = place.stop;
-    &site[start..stop]
+    &site[place.start..place.stop]
 }
 
 // Does this line, which is what was found, define a key that the rest defines again?
 fn repeats(line: &[u8], found: Found, rest: &[u8]) -> bool
     ensures { result ≡ is_defined found && is_named (key_of line.now) (site_definitions rest.now) }
 {
-    if is_defined(found) {
-        return 0 < site_definition(rest, fields::field(line, 0)).len();
-    }
-    false
+    is_defined(found) && 0 < site_definition(rest, fields::field(line, 0)).len()
 }
 
 // Are a site's definitions at fault?

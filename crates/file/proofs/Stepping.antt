@@ -4,9 +4,10 @@ use mathlib.Core.List.{List}
 use mathlib.Core.Path.{◌≡◌, refl, sym, ◌∙◌, ap}
 use native.Mathlib.Omega.{arith}
 use Rattle.std.proofs.Common.{add-one}
-use lib.ListN.{length, take, drop}
+use lib.ListN.{length, take, drop, length-drop}
+use lib.Seq.{length-take-le}
 use Rattle.text.specs.Lines.{line_at}
-use Rattle.text.proofs.Cut.{LineAt, line-at}
+use Rattle.text.proofs.Cut.{LineAt, line-at, WholeAt, whole-at}
 use Rattle.places.specs.declared.State.{State}
 use Rattle.places.specs.declared.Stepped.{Stepped}
 use Rattle.grammar.specs.Steps.{step_of}
@@ -28,6 +29,18 @@ front-counted walk e = rw e (omega arith)
 module _ {file : List ℕ} {walk walk' : Walk} {words : List ℕ} {did : Stepped} (s : StepIs file walk walk' words did) where
   pub cut-there : LineAt file walk.at (line_at file walk.at)
   cut-there = line-at file walk.at (line_at file walk.at) refl s.more
+
+  pub whole-there : WholeAt file walk.at (line_at file walk.at)
+  whole-there = whole-at file walk.at (line_at file walk.at) refl s.more
+
+  -- where it stops
+  pub words-end : walk.at + length words ≡ (line_at file walk.at).stop
+  words-end =
+      let l = cut-there in
+      let a = l.ordered in
+      let b = l.within in
+      let d = length-drop walk.at file in
+      rw (s.cut, length-take-le ((line_at file walk.at).stop - walk.at) (drop walk.at file) (omega arith)) (omega arith)
 
   pub gave-there : did ≡ step_of walk.state (suc walk.lines) (take ((line_at file walk.at).stop - walk.at) (drop walk.at file))
   gave-there = s.gave ∙ ap (step_of walk.state (suc walk.lines)) s.cut

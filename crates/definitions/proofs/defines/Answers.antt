@@ -7,6 +7,6 @@ pub returns-then-is_defined : goal.returns-then-is_defined
 unfolding key_of
 returns-then-is_defined c = c.same.ensures ∙ rw (← c.is_defined.ensures, c.if-is_defined.true, c.field.ensures)
 
-pub returns : goal.returns
+pub returns-else-is_defined : goal.returns-else-is_defined
 unfolding key_of
-returns c = rw (← c.is_defined.ensures, c.if-is_defined.false)
+returns-else-is_defined c = c.if-is_defined.false ∙ rw (← c.is_defined.ensures, c.if-is_defined.false)

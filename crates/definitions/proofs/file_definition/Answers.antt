@@ -11,13 +11,13 @@ there : (c : After-file_place-place)
 there c = rw c.file_place-place.ensures (file-holds _ _)
 
 pub slice_bounds-result-count : goal.slice_bounds-result-count
-slice_bounds-result-count c = (there c).ordered
+slice_bounds-result-count c = (there (goal.at.slice_bounds-result-count c).After-file_place-place).ordered
 
 pub slice_bounds-result-start : goal.slice_bounds-result-start
-slice_bounds-result-start c = (there c).ordered
+slice_bounds-result-start c = (there (goal.at.slice_bounds-result-start c).After-file_place-place).ordered
 
 pub slice_bounds-result-end : goal.slice_bounds-result-end
-slice_bounds-result-end c = (there c).within
+slice_bounds-result-end c = (there (goal.at.slice_bounds-result-end c).After-file_place-place).within
 
 pub returns : goal.returns
 returns c = (there (goal.at.returns c).After-file_place-place).there

@@ -1,62 +1,47 @@
-use Prim.Native.Nat.{◌-◌}
-use mathlib.Core.Path.{sym, ◌∙◌}
+use mathlib.Core.Path.{refl, sym, ◌∙◌}
 use native.Mathlib.Omega.{arith}
-use Rattle.text.proofs.Cut.{LineAt, line-at, WholeAt, whole-at}
+use Rattle.file.proofs.Stepping.{from-front, cut-there, whole-there, gave-there, nearer, carried, words-end}
 use Rattle.definitions.proofs.Beyond.{place-left}
-use Rattle.definitions.proofs.Placing.{place-start, place-line, place-turn, place_end, place-fault, place-hit, place-miss}
-use Rattle.definitions.proofs.file_place.Goals.{After-next_line-line}
+use Rattle.definitions.proofs.Placing.{PlaceWalk, place-start, place-line, place-turn, place_end, place-fault, place-hit, place-miss}
 use Rattle.definitions.proofs.file_place.Goals as goal
 
--- the line that starts here, without its end and with it
-here : (c : After-next_line-line) → LineAt c.args.file.now c.loop-at.at c.next_line-line.result
-here c = line-at _ _ _ c.next_line-line.ensures (omega arith)
+pub loop-walk-init : goal.loop-walk-init
+loop-walk-init c = from-front (PlaceWalk c.args.file.now c.args.key.now) _ c.walk_start-walk.ensures (place-start _ _ _ refl)
 
-whole : (c : After-next_line-line) → WholeAt c.args.file.now c.loop-at.at c.next_line-line.result
-whole c = whole-at _ _ _ c.next_line-line.ensures (omega arith)
+pub step-requires : goal.step-requires
+step-requires c = omega (arith, c.loop-walk.invariant.within.number)
 
-pub loop-at-init : goal.loop-at-init
-loop-at-init c = place-start _ _ _ c.start-st.ensures
-
-pub returns-then-left_definitions : goal.returns-then-left_definitions
-returns-then-left_definitions c = place-left c.loop-at.invariant (sym c.left_definitions.ensures ∙ c.if-left_definitions.true)
-
-pub slice_bounds-step-count : goal.slice_bounds-step-count
-slice_bounds-step-count c = (here c).ordered
-
-pub slice_bounds-step-start : goal.slice_bounds-step-start
-slice_bounds-step-start c = (here c).ordered
-
-pub slice_bounds-step-end : goal.slice_bounds-step-end
-slice_bounds-step-end c = (here c).within
+pub returns-in_default : goal.returns-in_default
+returns-in_default c = place_end c.loop-walk.invariant c.in_default.ensures.0
 
 pub returns-then-is_fault : goal.returns-then-is_fault
-returns-then-is_fault c = place-fault _ _ _ _ _ _ (place-line c.loop-at.invariant (here (goal.at.returns-then-is_fault c).After-next_line-line) (whole (goal.at.returns-then-is_fault c).After-next_line-line) c.step-did.ensures) (sym c.is_fault.ensures ∙ c.if-is_fault.true)
-
-pub slice_bounds-defines-count : goal.slice_bounds-defines-count
-slice_bounds-defines-count c = (here (goal.at.slice_bounds-defines-count c).After-next_line-line).ordered
-
-pub slice_bounds-defines-start : goal.slice_bounds-defines-start
-slice_bounds-defines-start c = (here (goal.at.slice_bounds-defines-start c).After-next_line-line).ordered
-
-pub slice_bounds-defines-end : goal.slice_bounds-defines-end
-slice_bounds-defines-end c = (here (goal.at.slice_bounds-defines-end c).After-next_line-line).within
+returns-then-is_fault c =
+    let s = c.in-Some.ensures in
+    place-fault _ _ _ _ _ _ (place-line c.loop-walk.invariant (cut-there s) (whole-there s) (gave-there s)) (sym c.is_fault.ensures ∙ c.if-is_fault.true)
 
 pub value_place-requires : goal.value_place-requires
-value_place-requires c = record { at_le_stop = (here (goal.at.value_place-requires c).After-next_line-line).ordered; stop_in_bounds = (here (goal.at.value_place-requires c).After-next_line-line).within }
+value_place-requires c =
+    let s = c.in-Some.ensures in
+    let e = words-end s in
+    record { at_le_stop = omega arith; stop_in_bounds = omega (arith, (cut-there s).within) }
 
 pub returns-then-defines : goal.returns-then-defines
-returns-then-defines c = c.value_place.ensures ∙ place-hit _ _ _ _ _ _ (place-line c.loop-at.invariant (here (goal.at.returns-then-defines c).After-next_line-line) (whole (goal.at.returns-then-defines c).After-next_line-line) c.step-did.ensures) (sym c.is_fault.ensures ∙ c.if-is_fault.false) (sym c.defines.ensures ∙ c.if-defines.true)
+returns-then-defines c =
+    let s = c.in-Some.ensures in
+    rw (words-end s) at c.value_place.ensures
+    ∙ place-hit _ _ _ _ _ _ (place-line c.loop-walk.invariant (cut-there s) (whole-there s) (gave-there s)) (sym c.is_fault.ensures ∙ c.if-is_fault.false)
+    (rw s.cut at (sym c.defines.ensures ∙ c.if-defines.true))
 
-pub overflow_add-n : goal.overflow_add-n
-overflow_add-n c = let w = c.loop-at.invariant.within in
-    omega (arith, w.number, (here (goal.at.overflow_add-n c).After-next_line-line).further, (here (goal.at.overflow_add-n c).After-next_line-line).inside)
+pub loop-walk-smaller : goal.loop-walk-smaller
+loop-walk-smaller c = nearer c.in-Some.ensures
 
-pub loop-at-smaller : goal.loop-at-smaller
-loop-at-smaller c = omega (arith, (here (goal.at.loop-at-smaller c).After-next_line-line).further, (here (goal.at.loop-at-smaller c).After-next_line-line).inside)
-
-pub loop-at-preserved : goal.loop-at-preserved
-loop-at-preserved c = let k = c.loop-at.invariant in
-    place-turn k (here (goal.at.loop-at-preserved c).After-next_line-line) (whole (goal.at.loop-at-preserved c).After-next_line-line) c.step-did.ensures (place-miss _ _ _ _ _ _ (place-line k (here (goal.at.loop-at-preserved c).After-next_line-line) (whole (goal.at.loop-at-preserved c).After-next_line-line) c.step-did.ensures) (sym c.is_fault.ensures ∙ c.if-is_fault.false) (sym c.defines.ensures ∙ c.if-defines.false))
+pub loop-walk-preserved : goal.loop-walk-preserved
+loop-walk-preserved c =
+    let k = c.loop-walk.invariant in
+    let s = c.in-Some.ensures in
+    carried s (PlaceWalk c.args.file.now c.args.key.now)
+    (place-turn k (cut-there s) (whole-there s) (gave-there s)
+    (place-miss _ _ _ _ _ _ (place-line k (cut-there s) (whole-there s) (gave-there s)) (sym c.is_fault.ensures ∙ c.if-is_fault.false) (rw s.cut at (sym c.defines.ensures ∙ c.if-defines.false))))
 
 pub returns : goal.returns
-returns c = place_end c.loop-at.invariant c.loop-at-test.false
+returns c = place-left c.loop-walk.invariant (sym c.left_definitions.ensures ∙ c.loop-walk-test.false)

@@ -23,7 +23,7 @@ loop-did-smaller c = nearer c.in-Some.ensures
 pub loop-did-preserved : goal.loop-did-preserved
 loop-did-preserved c =
     let i = c.loop-did.invariant in
-    let s = c.in-Some.ensures in
-    ( carried s (λ (st : State) (at n : ℕ). Within c.args.file.now at n) (within-turn i.0 (cut-there s))
-    , rw s.behind (omega (arith, i.1, c.open_count-count.ensures))
+    let s = c.in-Some.ensures in (
+      carried s (λ (st : State) (at n : ℕ). Within c.args.file.now at n) (within-turn i.0 (cut-there s)),
+      rw s.behind (omega (arith, i.1, c.open_count-count.ensures)),
     )
