@@ -16,3 +16,8 @@ pub record StepIs (file : List ℕ) (walk walk' : Walk) (words : List ℕ) (did 
 abbrev pub SteppedOn : List ℕ → Walk → Option (Bor (List ℕ) × Stepped) → Walk → Type 0
 SteppedOn file walk (Some (line, did)) walk' = StepIs file walk walk' line.now did
 SteppedOn file walk None walk' = (length file ≤ walk.at) × (walk' ≡ walk)
+
+-- the same of a line that is read where it stands
+abbrev pub ReadOn : List ℕ → Walk → Option Stepped → Walk → Type 0
+ReadOn file walk (Some did) walk' = StepIs file walk walk' (take ((line_at file walk.at).stop - walk.at) (drop walk.at file)) did
+ReadOn file walk None walk' = (length file ≤ walk.at) × (walk' ≡ walk)

@@ -4,7 +4,7 @@
 ghost use Rattle.std.specs.Prelude.{◌≡◌, ◌≤◌, []};
 ghost use Rattle.file.specs.Whole.{judged, ended, is_fault, row_count};
 ghost use Rattle.file.specs.Rows.{row_at, rows_of, line_of, laid_row, answer_of, Scanning};
-ghost use Rattle.file.specs.Steps.{SteppedOn};
+ghost use Rattle.file.specs.Steps.{SteppedOn, ReadOn};
 ghost use Rattle.file.specs.Marks.{walk_start, Marking};
 ghost use Rattle.file.specs.Inside.{Laid, is_met};
 
@@ -52,10 +52,32 @@ impl Walk {
         let line = &file[at..cut.stop];
         let number = self.lines + 1;
         let did = grammar::step(self.state, number, line);
-        self.at = cut.next;
-        self.lines = number;
-        self.state = did.next;
+        *self = Walk {
+            at: cut.next,
+            lines: number,
+            state: did.next,
+        };
         Some((line, did))
+    }
+
+    // What the line gives at which a walk stands; the walk goes on behind it. None at the end of the file. The line is not cut off first if it is a row
+    // or a stored value, as most are.
+    pub fn read(&mut self, file: &[u8]) -> Option<Stepped>
+        requires { self.old.lines ≤ self.old.at }
+        ensures { ReadOn file.now self.old result self.new }
+    {
+        let at = self.at;
+        if file.len() <= at {
+            return None;
+        }
+        let number = self.lines + 1;
+        let read = grammar::read_line(self.state, number, file, at);
+        *self = Walk {
+            at: read.next,
+            lines: number,
+            state: read.did.next,
+        };
+        Some(read.did)
     }
 }
 
@@ -82,11 +104,7 @@ pub fn walk_start() -> Walk
 fn is_met(noted: usize, st: State, section: usize) -> bool
     ensures { result ≡ is_met section noted st }
 {
-    if noted != 0 {
-        return false;
-    }
-    let place = st.place;
-    places::section_in(place) == section
+    noted == 0 && places::section_in(st.place) == section
 }
 
 // Lays a row over the table, where there is room for it.
@@ -95,12 +113,8 @@ fn lay_row(rows: &mut [i64], k: usize, cells: [i64; 12])
 {
     if k < rows.len() / 12 {
         let base = k * 12;
-        let mut j: usize = 0;
-        while j < 12 {
-            let v = cells[j];
-            let i = base + j;
-            rows[i] = v;
-            j += 1;
+        for j in 0..12 {
+            rows[base + j] = cells[j];
         }
     }
 }
@@ -109,12 +123,7 @@ fn lay_row(rows: &mut [i64], k: usize, cells: [i64; 12])
 pub fn is_fault(found: Found) -> bool
     ensures { result ≡ is_fault found }
 {
-    match found {
-        Found::Nothing => false,
-        Found::Row => false,
-        Found::Definition => false,
-        Found::Fault(_) => true,
-    }
+    matches!(found, Found::Fault(_))
 }
 
 // How many rows this is: one or none.
@@ -122,10 +131,8 @@ pub fn row_count(found: Found) -> usize
     ensures { result ≡ row_count found }
 {
     match found {
-        Found::Nothing => 0,
         Found::Row => 1,
-        Found::Definition => 0,
-        Found::Fault(_) => 0,
+        _ => 0,
     }
 }
 
@@ -155,11 +162,9 @@ fn answer(found: Found, n: usize, st: State, rows: usize) -> Scanned
 fn lay_found(rows: &mut [i64], k: usize, did: Stepped) -> usize
     ensures { Laid (row_at 0 [] did) k result rows.old rows.new }
 {
-    let found = did.found;
-    let count = row_count(found);
+    let count = row_count(did.found);
     if count == 1 {
-        let cells = did.cells;
-        lay_row(rows, k, cells);
+        lay_row(rows, k, did.cells);
     }
     count
 }
@@ -171,44 +176,28 @@ pub fn scan_marked(file: &[u8], rows: &mut [i64]) -> Marked
 {
     let mut names = walk_start();
     let mut shapes = walk_start();
-    let mut st = places::start();
-    let mut at: usize = 0;
-    let mut n: usize = 1;
+    let mut walk = walk_start();
     let mut used: usize = 0;
-    while at < file.len() {
-        let read = grammar::read_line(st, n, file, at);
-        let did = read.did;
-        let found = did.found;
-        if is_fault(found) {
-            let scanned = answer(found, n, st, used);
+    while let Some(did) = walk.read(file) {
+        if let Found::Fault(fault) = did.found {
             return Marked {
-                scanned,
+                scanned: Err(FaultAt {
+                    fault,
+                    line: walk.lines,
+                }),
                 names,
                 shapes,
             };
         }
         used += lay_found(rows, used, did);
-        at = read.next;
-        let next = did.next;
-        st = next;
-        if is_met(names.at, st, 8) {
-            names = Walk {
-                at,
-                lines: n,
-                state: st,
-            };
+        if is_met(names.at, walk.state, 8) {
+            names = walk;
         }
-        if is_met(shapes.at, st, 9) {
-            shapes = Walk {
-                at,
-                lines: n,
-                state: st,
-            };
+        if is_met(shapes.at, walk.state, 9) {
+            shapes = walk;
         }
-        n += 1;
     }
-    let found = places::ending(st);
-    let scanned = answer(found, 0, st, used);
+    let scanned = answer(places::ending(walk.state), 0, walk.state, used);
     Marked {
         scanned,
         names,
@@ -220,35 +209,24 @@ pub fn scan_marked(file: &[u8], rows: &mut [i64]) -> Marked
 pub fn scan(file: &[u8], rows: &mut [i64]) -> Scanned
     ensures { Scanning file.now result rows.old rows.new }
 {
-    let marked = scan_marked(file, rows);
-    let scanned = marked.scanned;
-    scanned
+    scan_marked(file, rows).scanned
 }
 
 // The line of row k of a file, from 0; 0 if there is none.
 pub fn row_line(file: &[u8], k: usize) -> usize
     ensures { result ≡ line_of (rows_of file.now) k }
 {
-    let mut st = places::start();
-    let mut at: usize = 0;
-    let mut n: usize = 1;
+    let mut walk = walk_start();
     let mut left = k;
-    while at < file.len() {
-        let read = grammar::read_line(st, n, file, at);
-        let did = read.did;
-        let found = did.found;
-        if is_fault(found) {
+    while let Some(did) = walk.read(file) {
+        if is_fault(did.found) {
             return 0;
         }
-        let count = row_count(found);
+        let count = row_count(did.found);
         if left < count {
             return did.line;
         }
         left -= count;
-        n += 1;
-        at = read.next;
-        let next = did.next;
-        st = next;
     }
     0
 }

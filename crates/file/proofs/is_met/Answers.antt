@@ -1,9 +1,11 @@
 -- `file::is_met` meets its contract. Assumes nothing.
+use borrow.Author.Tests.{ne_eqb}
+use mathlib.Core.Path.{◌∙◌}
 use Rattle.file.proofs.Marking.{noted-before, not_noted}
 use Rattle.file.proofs.is_met.Goals as goal
 
-pub returns-then-noted-ne0 : goal.returns-then-noted-ne0
-returns-then-noted-ne0 c = noted-before _ _ _ c.if-noted-ne0.true
+pub returns-else-noted-eq0 : goal.returns-else-noted-eq0
+returns-else-noted-eq0 c = ne_eqb _ 0 c.if-noted-eq0.false ∙ noted-before _ _ _ c.if-noted-eq0.false
 
-pub returns : goal.returns
-returns c = not_noted _ _ _ c.if-noted-ne0.false _ c.section_in.ensures
+pub returns-then-noted-eq0 : goal.returns-then-noted-eq0
+returns-then-noted-eq0 c = not_noted _ _ _ c.if-noted-eq0.true _ c.section_in.ensures

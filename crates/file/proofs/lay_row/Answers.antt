@@ -17,12 +17,6 @@ offset_bounds-cells-j c = omega arith
 pub bounds-cells-j : goal.bounds-cells-j
 bounds-cells-j c = omega arith
 
-pub offset_bounds-rows-i : goal.offset_bounds-rows-i
-offset_bounds-rows-i c = omega arith
-
-pub bounds-rows-i : goal.bounds-rows-i
-bounds-rows-i c = omega arith
-
 pub loop-j-preserved : goal.loop-j-preserved
 loop-j-preserved c = let a = c.args in
     let n : length a.cells ≡ 12 = search rules in

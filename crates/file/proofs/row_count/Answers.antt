@@ -1,16 +1,19 @@
 -- `file::row_count` meets its contract. Assumes nothing.
-use mathlib.Core.Path.{sym, ap}
+use Prim.Native.Nat.{ℕ}
+use mathlib.Core.Path.{◌≡◌, refl, sym, ap}
+use Rattle.places.specs.declared.Found.{Found}
+use Rattle.places.specs.declared.Found.TheVariants.{Nothing, Row, Definition, Fault}
 use Rattle.file.specs.Whole.{row_count}
 use Rattle.file.proofs.row_count.Goals as goal
 
-pub returns-in-Nothing : goal.returns-in-Nothing
-returns-in-Nothing c = sym (ap row_count c.in-Nothing.is)
+other : (found : Found) → (found ≡ Row → ⊥) → 0 ≡ row_count found
+other Nothing n = refl
+other Row n = absurd (n refl)
+other Definition n = refl
+other (Fault f) n = refl
 
 pub returns-in-Row : goal.returns-in-Row
 returns-in-Row c = sym (ap row_count c.in-Row.is)
 
-pub returns-in-Definition : goal.returns-in-Definition
-returns-in-Definition c = sym (ap row_count c.in-Definition.is)
-
-pub returns-in-Fault : goal.returns-in-Fault
-returns-in-Fault c = sym (ap row_count c.in-Fault.is)
+pub returns-in_default : goal.returns-in_default
+returns-in_default c = other _ c.in_default.not-Row
