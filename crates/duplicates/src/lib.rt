@@ -356,11 +356,8 @@ fn first_of_parts(file: &[u8], names: Walk, parts: u64) -> usize
     ensures { result ≡ again_line (words_of file.now) }
 {
     let mut first: usize = 0;
-    let mut part: u64 = 0;
-    while part < parts {
-        let again = first_in(file, names, parts, part);
-        first = earlier(first, again);
-        part += 1;
+    for part in 0..parts {
+        first = earlier(first, first_in(file, names, parts, part));
     }
     first
 }

@@ -128,18 +128,9 @@ fn lay_run(
         return None;
     }
     let mut s = sum;
-    let mut k = 0;
-    while k < n {
-        match shape::add_value(s, d) {
-            Some(z) => {
-                store(samples, at + k, z);
-                s = z;
-                k += 1;
-            }
-            None => {
-                return None;
-            }
-        }
+    for k in 0..n {
+        s = shape::add_value(s, d)?;
+        store(samples, at + k, s);
     }
     Some(s)
 }

@@ -12,33 +12,26 @@ use shape::Edition;
 fn edition_of(edition: u64) -> Option<Edition>
     ensures { result ≡ edition_of edition }
 {
-    if edition == 103 {
-        return Some(Edition::V13);
+    match edition {
+        103 => Some(Edition::V13),
+        104 => Some(Edition::V14),
+        _ => None,
     }
-    if edition == 104 {
-        return Some(Edition::V14);
-    }
-    None
 }
 
 // The number at a place; 0 behind the last.
 fn number_at(numbers: &[u64], i: usize) -> u64
     ensures { result ≡ get_or numbers.now i 0 }
 {
-    if i < numbers.len() {
-        return numbers[i];
-    }
-    0
+    numbers.get(i).copied().unwrap_or(0)
 }
 
 // Lays numbers over a lent answer, as many as fit, and zeros behind them.
 fn tell(answer: &mut [u64], numbers: &[u64])
     ensures { answer.new ≡ told (length answer.old) numbers.now }
 {
-    let mut i: usize = 0;
-    while i < answer.len() {
+    for i in 0..answer.len() {
         answer[i] = number_at(numbers, i);
-        i += 1;
     }
 }
 
@@ -57,8 +50,7 @@ pub fn pulseq_read<'a>(
     let line = answers::line(read) as u64;
     let used = answers::rows(read) as u64;
     let count = answers::samples(read) as u64;
-    let numbers = [number, line, used, count];
-    tell(answer, &numbers);
+    tell(answer, &[number, line, used, count]);
 }
 
 // Expands stored lines into lent samples, and tells the number and how many samples are used.
@@ -70,13 +62,11 @@ pub fn pulseq_expand(stored: &[u8], num: u64, edition: u64, samples: &mut [i64],
             let expanded = expanding::expand(stored, num as usize, known, samples);
             let number = shape::number_of(expanded);
             let used = shape::used_of(expanded) as u64;
-            let numbers = [number, used];
-            tell(answer, &numbers);
+            tell(answer, &[number, used]);
         }
         None => {
             output::clear_numbers(samples, 0);
-            let version = [3, 0];
-            tell(answer, &version);
+            tell(answer, &[3, 0]);
         }
     }
 }
@@ -90,13 +80,11 @@ pub fn pulseq_write(samples: &[i64], edition: u64, out: &mut [u8], answer: &mut 
             let written = shape_text::write(samples, known, out);
             let number = shape_text::number_of(written);
             let size = shape_text::length_of(written) as u64;
-            let numbers = [number, size];
-            tell(answer, &numbers);
+            tell(answer, &[number, size]);
         }
         None => {
             output::clear_bytes(out, 0);
-            let refused = [3, 0];
-            tell(answer, &refused);
+            tell(answer, &[3, 0]);
         }
     }
 }
@@ -131,13 +119,11 @@ pub fn pulseq_restate<'a>(
             let used = restater::rows(restated) as u64;
             let count = restater::samples(restated) as u64;
             let size = restater::length(restated) as u64;
-            let numbers = [number, line, used, count, size];
-            tell(answer, &numbers);
+            tell(answer, &[number, line, used, count, size]);
         }
         None => {
             clear_all(rows, samples, out);
-            let unknown = [3, 0];
-            tell(answer, &unknown);
+            tell(answer, &[3, 0]);
         }
     }
 }
@@ -150,8 +136,7 @@ pub fn pulseq_definition(file: &[u8], site: &[u8], key: &[u8], answer: &mut [u64
     let source = lookups::spot_number(spot);
     let start = lookups::spot_start(spot) as u64;
     let size = lookups::spot_length(spot) as u64;
-    let numbers = [source, start, size];
-    tell(answer, &numbers);
+    tell(answer, &[source, start, size]);
 }
 
 // Finds where the stored lines of a shape stand in the file, and tells 1, the place and the length, or zeros.
@@ -162,6 +147,5 @@ pub fn pulseq_stored(file: &[u8], site: &[u8], id: i64, answer: &mut [u64])
     let found = lookups::spot_number(spot);
     let start = lookups::spot_start(spot) as u64;
     let size = lookups::spot_length(spot) as u64;
-    let numbers = [found, start, size];
-    tell(answer, &numbers);
+    tell(answer, &[found, start, size]);
 }

@@ -41,18 +41,14 @@ pub fn rule_refusal(rule: Rule) -> Refusal
 pub fn is_big(file: &[u8], site: &[u8]) -> bool
     ensures { result ≡ is_big file.now site.now }
 {
-    if 16777216 < file.len() {
-        return true;
-    }
-    4096 < site.len()
+    16777216 < file.len() || 4096 < site.len()
 }
 
 // Has a line given a block?
 fn gives_block(did: Stepped) -> bool
     ensures { result ≡ gives_block did }
 {
-    let found = did.found;
-    if file::row_count(found) == 0 {
+    if file::row_count(did.found) == 0 {
         return false;
     }
     let cells = did.cells;
@@ -92,10 +88,7 @@ pub fn is_missing(edition: Edition, block: bool, defined: bool) -> bool
 pub fn lacks_room(rows: usize, count: u64, room: usize, size: usize) -> bool
     ensures { result ≡ lacks_room rows count room size }
 {
-    if room / 12 < rows {
-        return true;
-    }
-    (size as u64) < count
+    room / 12 < rows || (size as u64) < count
 }
 
 // SITE: a 1.3 file with a site's definitions at fault.
@@ -112,20 +105,12 @@ pub fn has_bad_site(edition: Edition, site: &[u8]) -> bool
 pub fn rule_at(i: usize) -> Rule
     ensures { result ≡ rule_at i }
 {
-    if i == 0 {
-        return Rule::Reference;
+    match i {
+        0 => Rule::Reference,
+        1 => Rule::Loop,
+        2 => Rule::Use,
+        3 => Rule::Align,
+        4 => Rule::Long,
+        _ => Rule::Outlasts,
     }
-    if i == 1 {
-        return Rule::Loop;
-    }
-    if i == 2 {
-        return Rule::Use;
-    }
-    if i == 3 {
-        return Rule::Align;
-    }
-    if i == 4 {
-        return Rule::Long;
-    }
-    Rule::Outlasts
 }

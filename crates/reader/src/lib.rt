@@ -37,14 +37,12 @@ fn ask_rules(
     if n <= rules::first_breaking(edition, rasters, rows, hints, n, samples) {
         return accepted;
     }
-    let mut i: usize = 0;
-    while i < 6 {
+    for i in 0..6 {
         let rule = questions::rule_at(i);
         let k = rules::first_broken(rule, edition, rasters, rows, hints, n, samples);
         if k < n {
             return answers::refused(questions::rule_refusal(rule), file::row_line(file, k));
         }
-        i += 1;
     }
     accepted
 }

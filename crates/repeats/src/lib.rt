@@ -186,11 +186,8 @@ fn first_of_parts(most: &[i64], file: &[u8], parts: u64) -> usize
     ensures { result ≡ rows_again (rows_of file.now) }
 {
     let mut first: usize = 0;
-    let mut part: u64 = 0;
-    while part < parts {
-        let again = first_in(most, file, parts, part);
-        first = duplicates::earlier(first, again);
-        part += 1;
+    for part in 0..parts {
+        first = duplicates::earlier(first, first_in(most, file, parts, part));
     }
     first
 }

@@ -19,16 +19,6 @@ struct Turned {
     walk: Walk,
 }
 
-// The smaller of two.
-fn least(a: usize, b: usize) -> usize
-    ensures { result ≡ min a b }
-{
-    if a < b {
-        return a;
-    }
-    b
-}
-
 // The size of number c of row k.
 fn size_at(rows: &[i64], k: usize, c: usize) -> usize
     ensures { result ≡ nat_abs (number_at rows.now k c) }
@@ -54,8 +44,8 @@ fn expand_shape(
     ensures { ShapeSampled edition stored.now rows.now k samples.old result samples.new }
 {
     let num = size_at(rows, k, 2);
-    let from = least(size_at(rows, k, 3), samples.len());
-    let to = from + least(num, samples.len() - from);
+    let from = size_at(rows, k, 3).min(samples.len());
+    let to = from + num.min(samples.len() - from);
     has_failed(expanding::expand(stored, num, edition, &mut samples[from..to]))
 }
 
@@ -107,15 +97,12 @@ pub fn expand_shapes(
     ensures { Sampled edition file.now rows.now n samples.old result samples.new }
 {
     let mut walk = shapes;
-    let mut k: usize = 0;
-    while k < n {
+    for k in 0..n {
         let turned = expand_row(file, walk, edition, rows, k, samples);
         if turned.failed {
             return k;
         }
-        let behind = turned.walk;
-        walk = behind;
-        k += 1;
+        walk = turned.walk;
     }
     n
 }

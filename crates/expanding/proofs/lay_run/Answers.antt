@@ -62,15 +62,12 @@ pub loop-k-init : goal.loop-k-init
 loop-k-init c = start _ _ _ _ _ _ c.requires c.if-num-at.false
 
 pub loop-k-preserved : goal.loop-k-preserved
-loop-k-preserved c = let z = c.in-Some.z in
+loop-k-preserved c = let z = c.in_ok-s.s in
     let f = rd-at z (omega arith) in
-    rw f (turn _ _ _ _ _ _ _ _ _ c.loop-k.invariant _ _ (omega arith) (sym c.add_value.ensures ∙ c.in-Some.is) (c.store.ensures ∙ rw f))
+    rw f (turn _ _ _ _ _ _ _ _ _ c.loop-k.invariant _ _ (omega arith) (sym c.add_value.ensures ∙ c.in_ok-s.was) (c.store.ensures ∙ rw f))
 
-pub shape_of-samples-in-None : goal.shape_of-samples-in-None
-shape_of-samples-in-None c = c.loop-k.invariant.long
-
-pub returns-in-None : goal.returns-in-None
-returns-in-None c = rw (rd-is c.ranges.sum) at (stop _ _ _ _ _ _ _ _ _ c.loop-k.invariant (omega arith) (sym c.add_value.ensures ∙ c.in-None.is))
+pub returns-in_err-s : goal.returns-in_err-s
+returns-in_err-s c = rw c.from_residual.ensures (rw (rd-is c.ranges.sum) at (stop _ _ _ _ _ _ _ _ _ c.loop-k.invariant (omega arith) (sym c.add_value.ensures ∙ c.in_err-s.was)))
 
 pub shape_of-samples : goal.shape_of-samples
 shape_of-samples c = c.loop-k.invariant.long

@@ -18,6 +18,3 @@ pub record Running (num : ℕ) (l : List ℤ) (at n : ℕ) (sum : ℤ) (d : Deci
 
 abbrev pub invariant-loop-k : goal.invariant-loop-k
 invariant-loop-k l = Running l.num l.initial.samples l.at l.n l.sum l.d l.samples l.s l.k
-
-abbrev pub decreases-loop-k : goal.decreases-loop-k
-decreases-loop-k l = l.n - l.k

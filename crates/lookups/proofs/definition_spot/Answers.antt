@@ -1,6 +1,6 @@
 -- `lookups::definition_spot` meets its contract. Assumes nothing.
 use Rattle.std.proofs.Common.{Some, None}
-use Rattle.core.specs.Option.{option_or}
+use Rattle.std.specs.Option.{option_or}
 use mathlib.Core.Path.{◌≡◌, refl, ◌∙◌}
 use Rattle.lookups.specs.Spots.{Spot, either_spot, definition_spot}
 use Rattle.lookups.proofs.Looking.{faulty-none, sound-found}

@@ -1,6 +1,5 @@
 -- `lookups::has_fault` meets its contract: a fault is an error. Assumes nothing.
-use Rattle.std.proofs.Common.{◌≡◌, ◌∙◌, refl, ap, Ok, Err}
-use Rattle.core.specs.Result.{is_err}
+use Rattle.std.proofs.Common.{is_err, ◌≡◌, ◌∙◌, refl, ap, Ok, Err}
 use Rattle.file.specs.Outcome.{Scanned}
 use Rattle.lookups.specs.Looking.{is_at_fault}
 use Rattle.lookups.proofs.has_fault.Goals as goal

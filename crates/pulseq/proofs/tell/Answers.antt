@@ -6,9 +6,6 @@ use Rattle.pulseq.proofs.tell.Goals as goal
 pub loop-i-init : goal.loop-i-init
 loop-i-init c = telling-start _ _
 
-pub loop-i-smaller : goal.loop-i-smaller
-loop-i-smaller c = omega (arith, c.loop-i.invariant.long)
-
 pub loop-i-preserved : goal.loop-i-preserved
 loop-i-preserved c = telling-turn _ _ _ c.loop-i.invariant (omega arith) c.number_at.ensures
 

@@ -4,25 +4,25 @@ use Rattle.questions.proofs.Asking.{last-rule}
 use Rattle.questions.specs.Asked.{in_order, rule_at}
 use Rattle.questions.proofs.rule_at.Goals as goal
 
-pub returns-then-i-eq0 : goal.returns-then-i-eq0
+pub returns-in-0 : goal.returns-in-0
 unfolding rule_at in_order
-returns-then-i-eq0 c = rw c.if-i-eq0.true
+returns-in-0 c = rw c.in-0.is
 
-pub returns-then-i-eq1 : goal.returns-then-i-eq1
+pub returns-in-1 : goal.returns-in-1
 unfolding rule_at in_order
-returns-then-i-eq1 c = rw c.if-i-eq1.true
+returns-in-1 c = rw c.in-1.is
 
-pub returns-then-i-eq2 : goal.returns-then-i-eq2
+pub returns-in-2 : goal.returns-in-2
 unfolding rule_at in_order
-returns-then-i-eq2 c = rw c.if-i-eq2.true
+returns-in-2 c = rw c.in-2.is
 
-pub returns-then-i-eq3 : goal.returns-then-i-eq3
+pub returns-in-3 : goal.returns-in-3
 unfolding rule_at in_order
-returns-then-i-eq3 c = rw c.if-i-eq3.true
+returns-in-3 c = rw c.in-3.is
 
-pub returns-then-i-eq4 : goal.returns-then-i-eq4
+pub returns-in-4 : goal.returns-in-4
 unfolding rule_at in_order
-returns-then-i-eq4 c = rw c.if-i-eq4.true
+returns-in-4 c = rw c.in-4.is
 
-pub returns : goal.returns
-returns c = last-rule _ (omega (arith, c.if-i-eq4.false, c.if-i-eq3.false, c.if-i-eq2.false, c.if-i-eq1.false, c.if-i-eq0.false))
+pub returns-in_default : goal.returns-in_default
+returns-in_default c = last-rule _ (omega arith)

@@ -14,9 +14,6 @@ loop-i-init c = refl
 pub returns-then-k-n : goal.returns-then-k-n
 returns-then-k-n c = rw c.refused.ensures (rule-broken _ _ _ _ _ c.loop-i.invariant c.loop-i-test.true _ c.rule_at-rule.ensures _ c.first_broken-k.ensures c.if-k-n.true _ c.rule_refusal.ensures _ c.row_line.ensures)
 
-pub loop-i-smaller : goal.loop-i-smaller
-loop-i-smaller c = omega arith
-
 pub loop-i-preserved : goal.loop-i-preserved
 loop-i-preserved c = rule-kept _ _ _ _ _ c.loop-i.invariant c.loop-i-test.true _ c.rule_at-rule.ensures _ c.first_broken-k.ensures c.if-k-n.false
 

@@ -8,6 +8,3 @@ use Rattle.reader.proofs.ask_rules.Given as goal
 
 abbrev pub invariant-loop-i : goal.invariant-loop-i
 invariant-loop-i l = RulesLeft (λ rule. first_broken rule l.edition l.rasters l.rows l.n l.samples) l.n (rows_of l.file) (Accepted l.n l.count) l.i
-
-abbrev pub decreases-loop-i : goal.decreases-loop-i
-decreases-loop-i l = 6 - l.i

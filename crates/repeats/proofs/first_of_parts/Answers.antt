@@ -1,20 +1,12 @@
 use Rattle.repeats.proofs.RowParts.{row-parts}
 use Rattle.duplicates.proofs.Parts.{parts-start, parts-turn}
-use native.Mathlib.Omega.{arith}
-use Prim.Native.Nat.{◌-◌}
 use Rattle.repeats.proofs.first_of_parts.Goals as goal
 
 pub loop-part-init : goal.loop-part-init
 loop-part-init c = parts-start _ _ _ _ _ _ _
 
-pub overflow_add-part : goal.overflow_add-part
-overflow_add-part c = omega (arith, c.loop-part-test.true)
-
-pub loop-part-smaller : goal.loop-part-smaller
-loop-part-smaller c = omega (arith, c.loop-part-test.true)
-
 pub loop-part-preserved : goal.loop-part-preserved
-loop-part-preserved c = parts-turn _ _ _ _ _ c.requires.le_parts c.loop-part.invariant c.first_in-again.ensures c.earlier-first.ensures
+loop-part-preserved c = parts-turn _ _ _ _ _ c.requires.le_parts c.loop-part.invariant c.first_in.ensures c.earlier-first.ensures
 
 pub returns : goal.returns
 returns c = row-parts _ _ c.requires.noted c.requires.le_parts c.loop-part.invariant c.loop-part-test.false

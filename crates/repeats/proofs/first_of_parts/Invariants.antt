@@ -3,11 +3,7 @@ use Rattle.repeats.specs.Inside.{no_row, same_row, row_number, row_open}
 use Rattle.duplicates.proofs.Parts.{PartsWalk}
 use Rattle.duplicates.specs.Inside.{row_line}
 use Rattle.file.specs.Rows.{rows_of}
-use Prim.Native.Nat.{◌-◌}
 use Rattle.repeats.proofs.first_of_parts.Given as goal
 
 abbrev pub invariant-loop-part : goal.invariant-loop-part
 invariant-loop-part l = PartsWalk row_line no_row same_row row_number (row_open l.most) (rows_of l.file) l.parts l.part l.first
-
-abbrev pub decreases-loop-part : goal.decreases-loop-part
-decreases-loop-part l = l.parts - l.part

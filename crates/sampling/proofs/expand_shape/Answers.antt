@@ -3,4 +3,4 @@ use Rattle.sampling.proofs.Laying.{shape-laid}
 use Rattle.sampling.proofs.expand_shape.Goals as goal
 
 pub returns : goal.returns
-returns c = shape-laid _ _ _ _ _ _ c.size_at-num.ensures _ c.size_at.ensures _ c.least-from.ensures _ c.least.ensures _ _ c.expand.ensures _ c.has_failed.ensures
+returns c = shape-laid _ _ _ _ _ _ c.size_at-num.ensures _ c.size_at.ensures _ c.min-from.ensures _ c.min.ensures _ _ c.expand.ensures _ c.has_failed.ensures

@@ -1,6 +1,4 @@
-use Prim.Native.Nat.{◌-◌}
 use mathlib.Core.Path.{◌∙◌}
-use native.Mathlib.Omega.{arith}
 use Rattle.sampling.proofs.Laying.{is-new, expanding-start, expanding-fails, expanding-turn, expanding-end}
 use Rattle.sampling.proofs.expand_shapes.Goals as goal
 
@@ -15,9 +13,6 @@ shape_of-samples-then-turned c = c.expand_row-turned.auto.samples ∙ c.loop-k.i
 
 pub returns-then-turned : goal.returns-then-turned
 returns-then-turned c = expanding-fails _ _ _ _ _ _ _ _ c.loop-k.invariant c.loop-k-test.true _ _ c.expand_row-turned.ensures c.if-turned.true
-
-pub loop-k-smaller : goal.loop-k-smaller
-loop-k-smaller c = omega (arith, c.loop-k-test.true)
 
 pub loop-k-preserved : goal.loop-k-preserved
 loop-k-preserved c = expanding-turn _ _ _ _ _ _ _ _ c.loop-k.invariant c.loop-k-test.true _ _ c.expand_row-turned.ensures c.if-turned.false c.expand_row-turned.auto.samples

@@ -1,10 +1,6 @@
 -- `sampling::expand_shapes` meets its contract. The loop expands the rows that are left (`Expanding`). Assumes nothing.
-use Prim.Native.Nat.{◌-◌}
 use Rattle.sampling.proofs.Laying.{Expanding}
 use Rattle.sampling.proofs.expand_shapes.Given as goal
 
 abbrev pub invariant-loop-k : goal.invariant-loop-k
 invariant-loop-k l = Expanding l.edition l.file l.rows l.n l.initial.samples l.samples l.walk l.k
-
-abbrev pub decreases-loop-k : goal.decreases-loop-k
-decreases-loop-k l = l.n - l.k

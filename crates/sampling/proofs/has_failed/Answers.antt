@@ -1,7 +1,5 @@
 -- `sampling::has_failed` meets its contract: each way to fail is an error. Assumes nothing.
-use Rattle.shape.specs.Answers.{Expanded}
-use Rattle.std.proofs.Common.{ℕ, ◌≡◌, ◌∙◌, refl, Result, Ok, Err}
-use Rattle.core.specs.Result.{is_err}
+use Rattle.std.proofs.Common.{is_err, ℕ, ◌≡◌, ◌∙◌, refl, Result, Ok, Err}
 use Rattle.shape.specs.declared.Unexpanded.{Unexpanded}
 use Rattle.shape.specs.declared.Unexpanded.TheVariants.{Field, Shape, Room}
 use Rattle.sampling.specs.Sampling.{failed}
