@@ -66,7 +66,8 @@ pub fn pulseq_expand(stored: &[u8], num: u64, edition: u64, samples: &mut [i64],
         }
         None => {
             output::clear_numbers(samples, 0);
-            tell(answer, &[3, 0]);
+            let version = [3, 0];
+            tell(answer, &version);
         }
     }
 }
@@ -84,7 +85,8 @@ pub fn pulseq_write(samples: &[i64], edition: u64, out: &mut [u8], answer: &mut 
         }
         None => {
             output::clear_bytes(out, 0);
-            tell(answer, &[3, 0]);
+            let refused = [3, 0];
+            tell(answer, &refused);
         }
     }
 }
@@ -123,7 +125,8 @@ pub fn pulseq_restate<'a>(
         }
         None => {
             clear_all(rows, samples, out);
-            tell(answer, &[3, 0]);
+            let unknown = [3, 0];
+            tell(answer, &unknown);
         }
     }
 }
