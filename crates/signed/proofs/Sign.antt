@@ -3,8 +3,8 @@
 -- Assumes nothing.
 use Rattle.std.proofs.Common.{None, Option, Some}
 use Prim.Native.Nat.{ℕ, zero, suc, ◌+◌, ◌≤◌, ◌<◌, min}
-use mathlib.Core.Path.{◌≡◌, refl, sym, ap, ap₂, ◌∙◌}
-use mathlib.Core.Bool.{Bool, true, false, not, cond}
+use mathlib.Core.Path.{◌≡◌, refl, sym, ap, ◌∙◌}
+use mathlib.Core.Bool.{Bool, true, false, cond}
 use native.Mathlib.Omega.{arith}
 use lib.Dec.{leb}
 use lib.IntN.{ℤ, pos, negsuc, nat_abs, neg_ℤ, sub_ℕ, ◌+ℤ◌, ◌-ℤ◌}
@@ -12,8 +12,8 @@ use mir.Syntax.{w64}
 use mir.Val.{SFits}
 use borrow.Author.Tests.{eqb-true, eq-eqb, leb-true, le-leb, lt-leb}
 use Rattle.signed.specs.Signed.{same_z, is_negative, largest, signed_of, within}
-use Rattle.signed.proofs.Machine.{rd, rd-is}
-use Rattle.signed.proofs.Difference.{sub_same, sub-pos, sub-neg-pos, sub-add, sub-abs}
+use Rattle.signed.proofs.Machine.{unfit-large}
+use Rattle.signed.proofs.Difference.{sub-pos, sub-neg-pos, sub-abs}
 
 -- a number is its sign before its size
 
@@ -21,10 +21,6 @@ pub sign-size : (z : ℤ) → signed_of (is_negative z) (nat_abs z) ≡ z
 unfolding signed_of is_negative
 sign-size (pos n) = refl
 sign-size (negsuc n) = refl
-
--- the same where the sign and the size were read from a local
-pub sign-size-read : {z : ℤ} {s : Bool} {n : ℕ} → SFits w64 z → s ≡ is_negative (rd z) → n ≡ nat_abs (rd z) → signed_of s n ≡ z
-sign-size-read {z} f p q = ap₂ signed_of p q ∙ sign-size (rd z) ∙ rd-is f
 
 pub size-signed : (s : Bool) (n : ℕ) → nat_abs (signed_of s n) ≡ n
 unfolding signed_of
@@ -42,17 +38,6 @@ pub signed_sub : (s : Bool) (n : ℕ) → signed_of s n ≡ sub_ℕ (cond s 0 n)
 unfolding signed_of
 signed_sub true n = sub-neg-pos n
 signed_sub false n = sub-pos n
-
--- a sum of two signed sizes is a third: with the signs known, e is omega's
-pub signed-sum : (s t u : Bool) (a b n : ℕ) → cond s 0 a + cond t 0 b + cond u n 0 ≡ cond u 0 n + (cond s a 0 + cond t b 0)
-    → signed_of s a +ℤ signed_of t b ≡ signed_of u n
-signed-sum s t u a b n e = ap₂ ◌+ℤ◌ (signed_sub s a) (signed_sub t b) ∙ sub-add (cond s 0 a) (cond s a 0) (cond t 0 b) (cond t b 0) ∙ sub_same (cond s 0 a + cond t 0 b) (cond s a 0 + cond t b 0) (cond u 0 n) (cond u n 0) e ∙ sym (signed_sub u n)
-
-pub signed-neg : (s : Bool) (n : ℕ) → neg_ℤ (signed_of s n) ≡ signed_of (not s) n
-unfolding signed_of
-signed-neg true zero = refl
-signed-neg true (suc n) = refl
-signed-neg false n = refl
 
 pub negative-signed : (n : ℕ) → 0 < n → is_negative (signed_of true n) ≡ true
 unfolding signed_of is_negative
@@ -99,13 +84,10 @@ module _ (most : ℕ) (z : ℤ) where
       go true f = let g : ◌≡◌ {A = (Option ℤ)} (Some z) (Some y) = rw f at e in (cc, omega (arith, leb-true (nat_abs z) (min most largest) f))
       go false f = let g : ◌≡◌ {A = (Option ℤ)} None (Some y) = rw f at e in let n : ◌≡◌ {A = ℕ} 0 1 = cc in absurd (omega arith)
 
-  within-min : within (min most largest) z ≡ within most z
+  -- what does not fit an i64 is beyond every size
+  pub within-unfit : (SFits w64 z → ⊥) → within most z ≡ None
   unfolding within
-  within-min = let e : min (min most largest) largest ≡ min most largest = omega arith in rw e
-
--- the sum of x and y within `top`, where these are known
-pub within-sum : {r : (Option ℤ)} {top : ℕ} {x y a b : ℤ} (most : ℕ) → r ≡ within top (x +ℤ y) → top ≡ min most largest → x ≡ a → y ≡ b → r ≡ within most (a +ℤ b)
-within-sum {a = a} {b = b} most e t p q = e ∙ ap₂ within t (ap₂ ◌+ℤ◌ p q) ∙ within-min most (a +ℤ b)
+  within-unfit h = let large = unfit-large z h in rw (lt-leb (nat_abs z) (min most largest) (omega arith))
 
 -- the size of a sum and of a difference
 
