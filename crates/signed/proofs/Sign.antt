@@ -2,17 +2,18 @@
 -- `within` gives where. Also the bounds of the size of a sum and of a difference, which omega reads.
 -- Assumes nothing.
 use Rattle.std.proofs.Common.{None, Option, Some}
-use Prim.Native.Nat.{ℕ, zero, suc, ◌+◌, ◌≤◌, ◌<◌, min}
+use Prim.Native.Nat.{ℕ, zero, suc, ◌+◌, ◌^◌, ◌≤◌, ◌<◌, min}
 use mathlib.Core.Path.{◌≡◌, refl, sym, ap, ◌∙◌}
 use mathlib.Core.Bool.{Bool, true, false, cond}
 use native.Mathlib.Omega.{arith}
-use lib.Dec.{leb}
+use lib.Dec.{eqb, leb}
+use lib.Signed.{mag}
 use lib.IntN.{ℤ, pos, negsuc, nat_abs, neg_ℤ, sub_ℕ, ◌+ℤ◌, ◌-ℤ◌}
 use mir.Syntax.{w64}
-use mir.Val.{SFits}
-use borrow.Author.Tests.{eqb-true, eq-eqb, leb-true, le-leb, lt-leb}
+use mir.Val.{SFits, of_z}
+use borrow.Author.Tests.{eqb-true, eq-eqb, ne_eqb, leb-true, le-leb, lt-leb}
 use Rattle.signed.specs.Signed.{same_z, is_negative, largest, signed_of, within}
-use Rattle.signed.proofs.Machine.{unfit-large}
+use Rattle.signed.proofs.Machine.{unfit-large, bits-inj}
 use Rattle.signed.proofs.Difference.{sub-pos, sub-neg-pos, sub-abs}
 
 -- a number is its sign before its size
@@ -64,6 +65,17 @@ same_z-true (negsuc a) (negsuc b) e = ap negsuc (eqb-true a b e)
 
 pub same_z-false : (a b : ℤ) → same_z a b ≡ false → a ≡ b → ⊥
 same_z-false a b e q = let z : ◌≡◌ {A = Bool} true false = sym (same_z-refl a) ∙ ap (same_z a) q ∙ e in let y : ◌≡◌ {A = ℕ} 0 1 = cc in omega arith
+
+-- the machine's test `a == b`, of two numbers and of a number and a literal
+pub same_bits : (a b : ℤ) → mag a < 2 ^ 63 → mag b < 2 ^ 63 → eqb (of_z w64 a) (of_z w64 b) ≡ same_z a b
+same_bits a b f g = go (same_z a b) refl
+  where
+    go : (t : Bool) → same_z a b ≡ t → eqb (of_z w64 a) (of_z w64 b) ≡ same_z a b
+    go true e = eq-eqb _ _ (ap (of_z w64) (same_z-true a b e)) ∙ sym e
+    go false e = ne_eqb _ _ (λ q. same_z-false a b e (bits-inj (record { sfits = f }) (record { sfits = g }) q)) ∙ sym e
+
+pub same_number : (z : ℤ) (n : ℕ) → mag z < 2 ^ 63 → n < 2 ^ 63 → eqb (of_z w64 z) n ≡ same_z z (pos n)
+same_number z n f g = same_bits z (pos n) f g
 
 -- sums that are asked to stay within a size
 

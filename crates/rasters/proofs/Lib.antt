@@ -1,2 +1,0 @@
--- The laws of rasters.
-pub mod Reading
