@@ -6,11 +6,21 @@ use mathlib.Core.Path.{◌≡◌}
 use native.Mathlib.Numerals.{add-one}
 use native.Mathlib.Omega.{arith}
 use borrow.Author.Tests.{ne_eqb, lt-ltb}
+use lib.Dec.{eqb}
 use lib.IntN.{ℤ}
 use Rattle.sayable.specs.Sayable.{nanos_at}
 use Rattle.durations.specs.Durations.{first_use, is_first, use_count, uses_in, delay_number}
 
--- ---- the number of the delay row of a duration that is used
+-- ---- the first use of a duration that is not 0
+pub first_some : (rows : List ℤ) (n k ns : ℕ) → ns ≡ nanos_at rows k → (ns ≡ 0 → ⊥) → (f : ℕ) → f ≡ first_use rows n k → eqb f k ≡ is_first rows n k
+unfolding is_first
+first_some rows n k ns p z f q = rw (← p, ne_eqb ns 0 z, q)
+
+-- ---- the number of the delay row of a duration: of 0, and of one that is used
+pub number-zero : (rows : List ℤ) (n k ns : ℕ) → ns ≡ nanos_at rows k → ns ≡ 0 → 0 ≡ delay_number rows n k
+unfolding delay_number
+number-zero rows n k ns p z = rw (← p, z)
+
 pub number-used : (rows : List ℤ) (n k ns : ℕ) → ns ≡ nanos_at rows k → (ns ≡ 0 → ⊥) → (f : ℕ) → f ≡ first_use rows n k → f < n → (u : ℕ) → u ≡ uses_in rows n 0 f
     → u + 1 ≡ delay_number rows n k
 unfolding delay_number

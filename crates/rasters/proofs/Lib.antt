@@ -1,0 +1,2 @@
+-- The laws of rasters.
+pub mod Reading
