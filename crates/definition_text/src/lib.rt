@@ -17,7 +17,7 @@ fn put_definition(out: &mut [u8], at: usize, key: &[u8], value: &[u8]) -> usize
     ensures { Put out.old at (definition_line key.now value.now) result out.new }
 {
     let space = output::put_bytes(out, at, key);
-    let start = output::put_byte(out, space, b' ');
+    let start = output::put_bytes(out, space, b" ");
     let end = output::put_bytes(out, start, value);
     output::put_byte(out, end, b'\n')
 }

@@ -5,4 +5,4 @@ use Rattle.definition_text.proofs.put_definition.Goals as goal
 
 pub returns : goal.returns
 unfolding definition_line
-returns c = put_then c.put_bytes-space.ensures (put_then c.put_byte-start.ensures (put_then c.put_bytes-end.ensures c.put_byte.ensures))
+returns c = put_then c.put_bytes-space.ensures (put_then c.put_bytes-start.ensures (put_then c.put_bytes-end.ensures c.put_byte.ensures))
