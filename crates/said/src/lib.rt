@@ -22,6 +22,14 @@ pub fn numbers_at(rows: &[i64], k: usize) -> [i64; 12]
     cells
 }
 
+// How rows are said: the target, its raster of blocks, and the rows with the list of their durations.
+#[derive(Clone, Copy)]
+struct Telling<'a> {
+    target: Edition,
+    raster: Nanos,
+    uses: Uses<'a>,
+}
+
 // The number of the delay row for the duration of block k: by where it stands in the list of durations, or by the rows if it is not listed.
 fn delay_of(uses: &Uses<'_>, k: usize) -> usize
     ensures { result ≡ delay_number uses.now.rows.now uses.now.n k }
@@ -34,32 +42,32 @@ fn delay_of(uses: &Uses<'_>, k: usize) -> usize
 }
 
 // What a target says for the duration of block k: the number of its delay row in 1.3, steps of the raster of blocks in 1.4.
-fn duration_of(target: Edition, raster: Nanos, uses: &Uses<'_>, k: usize) -> u64
-    ensures { result ≡ duration_of target raster.0 uses.now.rows.now uses.now.n k }
+fn duration_of(by: &Telling<'_>, k: usize) -> u64
+    ensures { result ≡ duration_of by.now.target by.now.raster.0 by.now.uses.rows.now by.now.uses.n k }
 {
-    match target {
-        Edition::V13 => delay_of(uses, k) as u64,
+    match by.target {
+        Edition::V13 => delay_of(&by.uses, k) as u64,
         Edition::V14 => {
-            let steps = sayable::nanos_at(uses.rows, k).steps(raster);
+            let steps = sayable::nanos_at(by.uses.rows, k).steps(by.raster);
             steps.map_or(0, |count| count.0)
         }
     }
 }
 
 // The same as a number of a row.
-fn duration_number(target: Edition, raster: Nanos, uses: &Uses<'_>, k: usize) -> i64
-    ensures { result ≡ duration_number target raster.0 uses.now.rows.now uses.now.n k }
+fn duration_number(by: &Telling<'_>, k: usize) -> i64
+    ensures { result ≡ duration_number by.now.target by.now.raster.0 by.now.uses.rows.now by.now.uses.n k }
 {
-    signed::with_sign(false, duration_of(target, raster, uses, k))
+    signed::with_sign(false, duration_of(by, k))
 }
 
 // Row k as the target says it.
-fn said_row(target: Edition, raster: Nanos, uses: &Uses<'_>, k: usize) -> [i64; 12]
-    ensures { result ≡ said_row target raster.0 uses.now.rows.now uses.now.n k }
+fn said_row(by: &Telling<'_>, k: usize) -> [i64; 12]
+    ensures { result ≡ said_row by.now.target by.now.raster.0 by.now.uses.rows.now by.now.uses.n k }
 {
-    let mut cells = numbers_at(uses.rows, k);
-    if sayable::is_kind(uses.rows, k, 1) {
-        cells[2] = duration_number(target, raster, uses, k);
+    let mut cells = numbers_at(by.uses.rows, k);
+    if sayable::is_kind(by.uses.rows, k, 1) {
+        cells[2] = duration_number(by, k);
     }
     cells
 }
@@ -80,38 +88,23 @@ pub fn put_line(out: &mut [u8], at: usize, target: Edition, form: Form, row: &[i
 }
 
 // Writes the line of row k as the target says it, if it is of a form.
-fn put_if(
-    out: &mut [u8],
-    at: usize,
-    target: Edition,
-    raster: Nanos,
-    form: Form,
-    uses: &Uses<'_>,
-    k: usize,
-) -> usize
-    ensures { Put out.old at (row_line target raster.0 form uses.now.rows.now uses.now.n k) result out.new }
+fn put_if(out: &mut [u8], at: usize, form: Form, by: &Telling<'_>, k: usize) -> usize
+    ensures { Put out.old at (row_line by.now.target by.now.raster.0 form by.now.uses.rows.now by.now.uses.n k) result out.new }
 {
-    if is_of_form(form, uses.rows, k) {
-        let row = said_row(target, raster, uses, k);
-        return put_line(out, at, target, form, &row);
+    if is_of_form(form, by.uses.rows, k) {
+        let row = said_row(by, k);
+        return put_line(out, at, by.target, form, &row);
     }
     at
 }
 
 // Writes the lines of all rows of a form as the target says them, by a list of durations.
-fn put_listed(
-    out: &mut [u8],
-    at: usize,
-    target: Edition,
-    raster: Nanos,
-    form: Form,
-    uses: &Uses<'_>,
-) -> usize
-    ensures { Put out.old at (rows_text target raster.0 form uses.now.rows.now uses.now.n) result out.new }
+fn put_listed(out: &mut [u8], at: usize, form: Form, by: &Telling<'_>) -> usize
+    ensures { Put out.old at (rows_text by.now.target by.now.raster.0 form by.now.uses.rows.now by.now.uses.n) result out.new }
 {
     let mut place = at;
-    for k in 0..uses.n {
-        place = put_if(out, place, target, raster, form, uses, k);
+    for k in 0..by.uses.n {
+        place = put_if(out, place, form, by, k);
     }
     place
 }
@@ -146,7 +139,12 @@ pub fn put_rows(
         rows,
         n,
     };
-    put_listed(out, at, target, raster, form, &uses)
+    let by = Telling {
+        target,
+        raster,
+        uses,
+    };
+    put_listed(out, at, form, &by)
 }
 
 // Is there a row of a kind among n rows?
