@@ -10,13 +10,16 @@ ghost use Rattle.extension_text.specs.Extensions.{word_at, extension_line, label
 use columns::Form;
 use shape::Edition;
 
-// The kinds of the rows that stand in this section.
+// The kind of an entry's row.
 const ENTRY: i64 = 7;
 
+// The kind of the row of a line `extension NAME type`.
 const EXTENSION: i64 = 8;
 
+// The kind of a trigger's row.
 const TRIGGER: i64 = 9;
 
+// The kind of a label's row.
 const LABEL: i64 = 10;
 
 // The word at a place of a list of words, from 1; none at 0 and behind the last.
