@@ -19,7 +19,7 @@ fn put_definition(out: &mut [u8], at: usize, key: &[u8], value: &[u8]) -> usize
     let space = output::put_bytes(out, at, key);
     let start = output::put_bytes(out, space, b" ");
     let end = output::put_bytes(out, start, value);
-    output::put_byte(out, end, 10)
+    output::put_byte(out, end, b'\n')
 }
 
 // Writes the definition that a line is, if that was found.
@@ -29,7 +29,7 @@ fn put_found(out: &mut [u8], at: usize, found: Found, line: &[u8]) -> usize
     if definitions::is_defined(found) {
         return put_definition(out, at, fields::field(line, 0), grammar::value(line));
     }
-    output::put_bytes(out, at, b"")
+    at
 }
 
 // Writes the definitions of a file, in its order.
@@ -51,10 +51,10 @@ fn put_own(out: &mut [u8], at: usize, file: &[u8]) -> usize
 fn put_absent(out: &mut [u8], at: usize, file: &[u8], site: &[u8], key: &[u8]) -> usize
     ensures { Put out.old at (absent_line (definitions_of file.now) (site_definitions site.now) key.now) result out.new }
 {
-    if definitions::file_definition(file, key).len() == 0 {
+    if definitions::file_definition(file, key).is_empty() {
         return put_definition(out, at, key, definitions::site_definition(site, key));
     }
-    output::put_bytes(out, at, b"")
+    at
 }
 
 // Writes what is added for a target: the rasters that the file lacks, for 1.4.1.
@@ -62,7 +62,7 @@ fn put_added(out: &mut [u8], at: usize, target: Edition, file: &[u8], site: &[u8
     ensures { Put out.old at (added_lines target (definitions_of file.now) (site_definitions site.now)) result out.new }
 {
     match target {
-        Edition::V13 => output::put_bytes(out, at, b""),
+        Edition::V13 => at,
         Edition::V14 => {
             let rf = put_absent(out, at, file, site, b"GradientRasterTime");
             let adc = put_absent(out, rf, file, site, b"RadiofrequencyRasterTime");
@@ -112,7 +112,7 @@ pub fn put_definition_section(
         let body = output::put_bytes(out, at, b"[DEFINITIONS]\n");
         let added = put_own(out, body, file);
         let end = put_added(out, added, target, file, site);
-        return output::put_byte(out, end, 10);
+        return output::put_byte(out, end, b'\n');
     }
-    output::put_bytes(out, at, b"")
+    at
 }

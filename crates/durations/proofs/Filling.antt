@@ -6,57 +6,15 @@ use mathlib.Core.Logic.{⊎_elim}
 use mathlib.Core.Path.{◌≡◌, refl, sym, ap, ◌∙◌}
 use native.Mathlib.Numerals.{add-one}
 use native.Mathlib.Omega.{arith}
-use borrow.Author.Tests.{eq-eqb, ne_eqb}
-use lib.Dec.{eqb}
 use lib.IntN.{ℤ}
-use lib.ListN.{length, get_or, take, drop, set, length-append, drop_of_length-le, take-append-drop}
-use lib.Seq.{drop-cons, take-length, length-take-le}
+use lib.ListN.{length, take, drop, set, length-append, take-append-drop}
+use lib.Seq.{take-length, length-take-le}
 use Rattle.text.proofs.Cases.{lt-or-ge}
 use Rattle.output.specs.Over.{over}
 use Rattle.output.proofs.Over.{over-append, over-past, over-front, length_over}
-use Rattle.blocks.specs.Blocks.{is_block}
 use Rattle.sayable.specs.Sayable.{nanos_at}
-use Rattle.durations.specs.Durations.{uses_in, uses_list, Listed, FirstUsed, stands_at, is_new, new_use}
+use Rattle.durations.specs.Durations.{uses_in, uses_list, Listed, FirstUsed, is_new, new_use}
 use Rattle.durations.proofs.Listing.{uses-length, uses-split, uses-more, new-next}
-
--- ---- a list searched from the front: with i numbers passed, what is sought is among those left
-pub record Seeking (list : List ℕ) (x i : ℕ) : Type 0 where
-  pub within : i ≤ length list
-  pub same : i + stands_at (drop i list) x ≡ stands_at list x
-
-module _ (list : List ℕ) (x : ℕ) where
-  pub seek-start : Seeking list x 0
-  seek-start = record { within = omega arith; same = omega arith }
-
-  module _ (i : ℕ) (w : Seeking list x i) where
-    pub seek-here : i < length list → get_or list i 0 ≡ x → i ≡ stands_at list x
-    unfolding stands_at
-    seek-here h e = let s = rw (drop-cons list i 0 h, eq-eqb (get_or list i 0) x e) at w.same in omega arith
-
-    pub seek-turn : i < length list → (get_or list i 0 ≡ x → ⊥) → Seeking list x (i + 1)
-    unfolding stands_at
-    seek-turn h e =
-        let s = rw (drop-cons list i 0 h, ne_eqb (get_or list i 0) x e) at w.same in
-        record { within = omega arith; same = rw (add-one i) (omega arith) }
-
-    pub seek-end : length list ≤ i → i ≡ stands_at list x
-    unfolding stands_at
-    seek-end h = let s = rw (drop_of_length-le list h) at w.same in omega arith
-
--- ---- what is new
-module _ (list : List ℕ) (rows : List ℤ) (k : ℕ) where
-  pub new-other : is_block rows k ≡ false → false ≡ is_new list rows k
-  unfolding is_new
-  new-other e = rw e
-
-  module _ (b : is_block rows k ≡ true) (ns : ℕ) (p : ns ≡ nanos_at rows k) where
-    pub new-zero : ns ≡ 0 → false ≡ is_new list rows k
-    unfolding is_new
-    new-zero z = rw (b, ← p, z)
-
-    pub new-some : (ns ≡ 0 → ⊥) → (place : ℕ) → place ≡ stands_at list ns → eqb place (length list) ≡ is_new list rows k
-    unfolding is_new
-    new-some z place q = rw (b, ← p, ne_eqb ns 0 z, q)
 
 -- it is laid behind what the list has
 module _ (l : List ℕ) (count : ℕ) (rows : List ℤ) (k : ℕ) (b : Bool) (p : b ≡ is_new (take count l) rows k) where
@@ -170,6 +128,11 @@ module _ {rows : List ℤ} {n count : ℕ} {l l' : List ℕ} (w : Listed rows n 
       let o = length_over (uses_list rows n 0 n) l 0 in
       let f : length (take count (over l 0 (uses_list rows n 0 n))) ≡ count = length-take-le count (over l 0 (uses_list rows n 0 n)) (omega arith) in
       rw (w.list, f) (front-over (uses_list rows n 0 n) l count (omega arith))
+
+-- the same as a fact of a `Uses`
+pub first-used : (rows : List ℤ) (n : ℕ) (list : List ℕ) → list ≡ take (length list) (uses_list rows n 0 n) → FirstUsed rows n list
+unfolding FirstUsed
+first-used rows n list e = e
 
 pub none-listed : (rows : List ℤ) (n : ℕ) → FirstUsed rows n []
 unfolding FirstUsed

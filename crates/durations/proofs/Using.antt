@@ -5,46 +5,26 @@ use mathlib.Core.List.{List}
 use mathlib.Core.Path.{◌≡◌}
 use native.Mathlib.Numerals.{add-one}
 use native.Mathlib.Omega.{arith}
-use borrow.Author.Tests.{ne_eqb, lt-ltb, le-ltb}
+use borrow.Author.Tests.{ne_eqb, lt-ltb}
 use lib.Dec.{eqb}
-use lib.IntN.{ℤ, pos}
-use Rattle.signed.specs.Signed.{same_z}
-use Rattle.tables.specs.Tables.{number_at}
+use lib.IntN.{ℤ}
 use Rattle.sayable.specs.Sayable.{nanos_at}
-use Rattle.durations.specs.Durations.{is_alike, first_use, is_first, use_count, uses_in, delay_number}
-
--- ---- a block that lasts as long
-module _ (rows : List ℤ) (k j : ℕ) where
-  pub alike-block : same_z (number_at rows j 0) (pos 1) ≡ true → (a b : ℕ) → a ≡ nanos_at rows j → b ≡ nanos_at rows k → eqb a b ≡ is_alike rows k j
-  unfolding is_alike
-  alike-block e a b p q = rw (e, p, q)
-
-  pub alike-not : same_z (number_at rows j 0) (pos 1) ≡ false → false ≡ is_alike rows k j
-  unfolding is_alike
-  alike-not e = rw e
+use Rattle.durations.specs.Durations.{first_use, is_first, use_count, uses_in, delay_number}
 
 -- ---- the first use of a duration that is not 0
-module _ (rows : List ℤ) (n k ns : ℕ) (p : ns ≡ nanos_at rows k) where
-  pub first-zero : ns ≡ 0 → false ≡ is_first rows n k
-  unfolding is_first
-  first-zero z = rw (← p, z)
+pub first_some : (rows : List ℤ) (n k ns : ℕ) → ns ≡ nanos_at rows k → (ns ≡ 0 → ⊥) → (f : ℕ) → f ≡ first_use rows n k → eqb f k ≡ is_first rows n k
+unfolding is_first
+first_some rows n k ns p z f q = rw (← p, ne_eqb ns 0 z, q)
 
-  pub first_some : (ns ≡ 0 → ⊥) → (f : ℕ) → f ≡ first_use rows n k → eqb f k ≡ is_first rows n k
-  unfolding is_first
-  first_some z f q = rw (← p, ne_eqb ns 0 z, q)
+-- ---- the number of the delay row of a duration: of 0, and of one that is used
+pub number-zero : (rows : List ℤ) (n k ns : ℕ) → ns ≡ nanos_at rows k → ns ≡ 0 → 0 ≡ delay_number rows n k
+unfolding delay_number
+number-zero rows n k ns p z = rw (← p, z)
 
-  pub number-zero : ns ≡ 0 → 0 ≡ delay_number rows n k
-  unfolding delay_number
-  number-zero z = rw (← p, z)
-
-  module _ (z : ns ≡ 0 → ⊥) (f : ℕ) (q : f ≡ first_use rows n k) where
-    pub number-used : f < n → (u : ℕ) → u ≡ uses_in rows n 0 f → u + 1 ≡ delay_number rows n k
-    unfolding delay_number
-    number-used h u r = rw (← p, ne_eqb ns 0 z, ← q, lt-ltb f n h, ← r) (add-one u)
-
-    pub number-none : n ≤ f → 0 ≡ delay_number rows n k
-    unfolding delay_number
-    number-none h = rw (← p, ne_eqb ns 0 z, ← q, le-ltb f n h)
+pub number-used : (rows : List ℤ) (n k ns : ℕ) → ns ≡ nanos_at rows k → (ns ≡ 0 → ⊥) → (f : ℕ) → f ≡ first_use rows n k → f < n → (u : ℕ) → u ≡ uses_in rows n 0 f
+    → u + 1 ≡ delay_number rows n k
+unfolding delay_number
+number-used rows n k ns p z f q h u r = rw (← p, ne_eqb ns 0 z, ← q, lt-ltb f n h, ← r) (add-one u)
 
 -- ---- one or none
 pub use-one : (rows : List ℤ) (n k : ℕ) (b : Bool) → b ≡ is_first rows n k → b ≡ true → 1 ≡ use_count rows n k

@@ -1,30 +1,34 @@
 // Delay rows for 1.3.1: one for each distinct nonzero duration of the blocks, numbered from 1 by first use.
-#![tactic(auto)]
+#![tactic(auto, unfolding(crate::specs::Durations::is_alike, crate::specs::Durations::is_first, crate::specs::Durations::use_count, crate::specs::Durations::delay_number, crate::specs::Durations::is_new, crate::specs::Durations::new_use, blocks::specs::Blocks::is_block, sayable::specs::Sayable::is_kind))]
 
 ghost use Rattle.std.specs.Prelude.{◌+◌, ◌<◌, ◌≡◌, length, take};
 ghost use Rattle.output.specs.Over.{over};
-ghost use Rattle.durations.specs.Durations.{is_alike, first_use, is_first, use_count, uses_in, delay_number, Listed, stands_at, is_new, new_use};
+ghost use Rattle.durations.specs.Durations.{is_alike, first_use, is_first, use_count, uses_in, delay_number, Listed, uses_list, stands_at, is_new, new_use};
+
+// A table of n rows, and a list that holds the first durations of its blocks in the order of first use.
+#[derive(Clone, Copy)]
+pub struct Uses<'a> {
+    pub list: &'a [u64],
+    pub rows: &'a [i64],
+    pub n: usize,
+    pub ghost first_used: { list.now ≡ take (length list.now) (uses_list rows.now n 0 n) },
+}
 
 // Is row j a block that lasts as long as row k?
 fn is_alike(rows: &[i64], k: usize, j: usize) -> bool
     ensures { result ≡ is_alike rows.now k j }
 {
-    if signed::same(tables::number(rows, j, 0), 1) {
-        return sayable::nanos_at(rows, j).0 == sayable::nanos_at(rows, k).0;
-    }
-    false
+    sayable::is_kind(rows, j, 1) && sayable::nanos_at(rows, j) == sayable::nanos_at(rows, k)
 }
 
 // The first of n rows that is a block and lasts as long as row k; n if there is none.
 fn first_use(rows: &[i64], n: usize, k: usize) -> usize
     ensures { result ≡ first_use rows.now n k }
 {
-    let mut j: usize = 0;
-    while j < n {
+    for j in 0..n {
         if is_alike(rows, k, j) {
             return j;
         }
-        j += 1;
     }
     n
 }
@@ -33,31 +37,23 @@ fn first_use(rows: &[i64], n: usize, k: usize) -> usize
 pub fn is_first(rows: &[i64], n: usize, k: usize) -> bool
     ensures { result ≡ is_first rows.now n k }
 {
-    if sayable::nanos_at(rows, k).0 == 0 {
-        return false;
-    }
-    first_use(rows, n, k) == k
+    sayable::nanos_at(rows, k).0 != 0 && first_use(rows, n, k) == k
 }
 
 // How many first uses row k, of n rows, is: one or none.
 fn use_count(rows: &[i64], n: usize, k: usize) -> usize
     ensures { result ≡ use_count rows.now n k }
 {
-    if is_first(rows, n, k) {
-        return 1;
-    }
-    0
+    usize::from(is_first(rows, n, k))
 }
 
 // How many of the first m rows, of n, are first uses of a nonzero duration.
 fn uses_in(rows: &[i64], n: usize, m: usize) -> usize
     ensures { result ≡ uses_in rows.now n 0 m }
 {
-    let mut count: usize = 0;
-    let mut k: usize = 0;
-    while k < m {
+    let mut count = 0;
+    for k in 0..m {
         count += use_count(rows, n, k);
-        k += 1;
     }
     count
 }
@@ -80,28 +76,18 @@ pub fn delay_number(rows: &[i64], n: usize, k: usize) -> usize
 pub fn stands_at(list: &[u64], x: u64) -> usize
     ensures { result ≡ stands_at list.now x }
 {
-    let mut i: usize = 0;
-    while i < list.len() {
-        if list[i] == x {
-            return i;
-        }
-        i += 1;
-    }
-    i
+    list.iter().position(|y| *y == x).unwrap_or(list.len())
 }
 
 // Is row k a block with a duration other than 0 that does not stand in a list?
 fn is_new(list: &[u64], rows: &[i64], k: usize) -> bool
     ensures { result ≡ is_new list.now rows.now k }
 {
-    if signed::same(tables::number(rows, k, 0), 1) {
-        let ns = sayable::nanos_at(rows, k).0;
-        if ns == 0 {
-            return false;
-        }
-        return stands_at(list, ns) == list.len();
+    if !sayable::is_kind(rows, k, 1) {
+        return false;
     }
-    false
+    let ns = sayable::nanos_at(rows, k).0;
+    ns != 0 && stands_at(list, ns) == list.len()
 }
 
 // Lays the duration of row k behind the first `count` of a list, if it is new there; how many there are then.
@@ -121,14 +107,12 @@ fn note(list: &mut [u64], count: usize, rows: &[i64], k: usize) -> usize
 pub fn list_uses(list: &mut [u64], rows: &[i64], n: usize) -> usize
     ensures { Listed rows.now n list.old result list.new }
 {
-    let mut count: usize = 0;
-    let mut k: usize = 0;
-    while k < n {
+    let mut count = 0;
+    for k in 0..n {
         if list.len() <= count {
             return count;
         }
         count = note(list, count, rows, k);
-        k += 1;
     }
     count
 }

@@ -2,7 +2,7 @@
 use Prim.Native.Nat.{ℕ, suc, ◌-◌}
 use mathlib.Core.Bool.{Bool, true, false}
 use mathlib.Core.List.{List, [], ◌∷◌, append_assoc, append-nil}
-use mathlib.Core.Path.{◌≡◌, sym, ap}
+use mathlib.Core.Path.{◌≡◌, refl, sym, ap}
 use native.Mathlib.Omega.{arith}
 use lib.IntN.{ℤ, pos, nat_abs}
 use lib.ListN.{get_or}
@@ -10,6 +10,8 @@ use Rattle.output.specs.Over.{Put}
 use Rattle.output.proofs.Over.{put_then}
 use Rattle.fields.specs.Fields.{joined, spaced}
 use Rattle.print.specs.Printed.{signed_text}
+use Rattle.signed.specs.Signed.{same_z}
+use Rattle.signed.proofs.Sign.{same_z-true}
 use Rattle.shape.specs.declared.Edition.{Edition}
 use Rattle.columns.specs.declared.Form.TheVariants.{Entry, Trigger}
 use Rattle.heads.specs.Heads.{label_names, extension_names, extension_word}
@@ -45,26 +47,30 @@ module _ (rows : List ℤ) (k : ℕ) {l l₁ l₂ l₃ l₄ : List ℕ} {at r₁
   label-put x y label u v w p q s t = rw (← u, ← v, ← w) (three-put _ _ _ p q s t)
 
 -- ---- the line of row k, by its kind
-module _ (target : Edition) (rows : List ℤ) (k : ℕ) (a : Bool) (p : a ≡ is_kind rows k (pos 7)) where
-  pub listed-entry : a ≡ true → (row : List ℤ) → row ≡ numbers_at rows k → line_text target Entry row ≡ listed_line target rows k
-  unfolding listed_line
+other : (z y : ℤ) → (z ≡ y → ⊥) → same_z z y ≡ false
+other z y h = go (same_z z y) refl
+  where
+    go : (b : Bool) → same_z z y ≡ b → same_z z y ≡ false
+    go true e = absurd (h (same_z-true z y e))
+    go false e = e
+
+module _ (target : Edition) (rows : List ℤ) (k : ℕ) (z : ℤ) (p : z ≡ number_at rows k 0) where
+  pub listed-entry : z ≡ pos 7 → (row : List ℤ) → row ≡ numbers_at rows k → line_text target Entry row ≡ listed_line target rows k
+  unfolding listed_line is_kind same_z
   listed-entry e row x = rw (← p, e, x)
 
-  module _ (u : a ≡ false) (b : Bool) (q : b ≡ is_kind rows k (pos 8)) where
-    pub listed-extension : b ≡ true → extension_line rows k ≡ listed_line target rows k
-    unfolding listed_line
-    listed-extension e = rw (← p, u, ← q, e)
+  pub listed-extension : z ≡ pos 8 → extension_line rows k ≡ listed_line target rows k
+  unfolding listed_line is_kind same_z
+  listed-extension e = rw (← p, e)
 
-    module _ (v : b ≡ false) (c : Bool) (s : c ≡ is_kind rows k (pos 9)) where
-      pub listed-trigger : c ≡ true → (row : List ℤ) → row ≡ numbers_at rows k → line_text target Trigger row ≡ listed_line target rows k
-      unfolding listed_line
-      listed-trigger e row x = rw (← p, u, ← q, v, ← s, e, x)
+  pub listed-trigger : z ≡ pos 9 → (row : List ℤ) → row ≡ numbers_at rows k → line_text target Trigger row ≡ listed_line target rows k
+  unfolding listed_line is_kind same_z
+  listed-trigger e row x = rw (← p, e, x)
 
-      module _ (w : c ≡ false) (d : Bool) (t : d ≡ is_kind rows k (pos 10)) where
-        pub listed-label : d ≡ true → label_line rows k ≡ listed_line target rows k
-        unfolding listed_line
-        listed-label e = rw (← p, u, ← q, v, ← s, w, ← t, e)
+  pub listed-label : z ≡ pos 10 → label_line rows k ≡ listed_line target rows k
+  unfolding listed_line is_kind same_z
+  listed-label e = rw (← p, e)
 
-        pub listed-none : d ≡ false → [] ≡ listed_line target rows k
-        unfolding listed_line
-        listed-none e = rw (← p, u, ← q, v, ← s, w, ← t, e)
+  pub listed-none : (z ≡ pos 7 → ⊥) → (z ≡ pos 8 → ⊥) → (z ≡ pos 9 → ⊥) → (z ≡ pos 10 → ⊥) → [] ≡ listed_line target rows k
+  unfolding listed_line is_kind
+  listed-none a b c d = rw (← p, other z (pos 7) a, other z (pos 8) b, other z (pos 9) c, other z (pos 10) d)

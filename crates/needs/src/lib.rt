@@ -1,5 +1,5 @@
 // Which rasters restating needs: those that reading needs, and what the target needs besides.
-#![tactic(auto)]
+#![tactic(auto, unfolding(crate::specs::Needs::besides, crate::specs::Needs::lacks_for))]
 
 ghost use Rattle.std.specs.Prelude.{◌≡◌};
 ghost use Rattle.needs.specs.Needs.{site_rasters, lacks_for};
@@ -18,11 +18,9 @@ pub fn site_rasters(site: &[u8]) -> Rasters
 pub fn is_lacking_for(target: Edition, edition: Edition, own: Rasters, site: Rasters) -> bool
     ensures { result ≡ lacks_for target edition own site }
 {
-    if rasters::is_lacking(edition, own) {
-        return true;
-    }
-    match target {
-        Edition::V13 => rasters::is_lacking(Edition::V13, site),
-        Edition::V14 => rasters::is_lacking(Edition::V14, own),
-    }
+    rasters::is_lacking(edition, own)
+        || match target {
+            Edition::V13 => rasters::is_lacking(Edition::V13, site),
+            Edition::V14 => rasters::is_lacking(Edition::V14, own),
+        }
 }

@@ -1,5 +1,5 @@
 // The rasters of a file and a site, in nanoseconds, and whether a needed one is missing.
-#![tactic(auto)]
+#![tactic(auto, unfolding(crate::specs::Rasters::raster_of, crate::specs::Rasters::worth_of, crate::specs::Rasters::whole_or0, crate::specs::Rasters::text_of, crate::specs::Rasters::lacks, crate::specs::Rasters::lacks_first, crate::specs::Rasters::rasters_of, crate::specs::Rasters::gradient_key, crate::specs::Rasters::rf_key, crate::specs::Rasters::adc_key, crate::specs::Rasters::block_key))]
 
 ghost use Rattle.std.specs.Prelude.{◌≡◌};
 ghost use Rattle.rasters.specs.Rasters.{raster_of, text_of, rasters_of, lacks};
@@ -7,17 +7,15 @@ ghost use Rattle.rasters.specs.Rasters.{raster_of, text_of, rasters_of, lacks};
 use shape::Edition;
 use unit::{Nanos, Rasters};
 
+// The longest raster, in nanoseconds.
+const LONGEST: u32 = 1_000_000;
+
 // A raster from its text; 0 where that is no decimal in seconds worth a whole 1 to 10^6 ns.
 fn raster(text: &[u8]) -> Nanos
     ensures { result.0 ≡ raster_of text.now }
 {
-    match decimals::read_decimal(text) {
-        Some(d) => match numeral::whole_worth(d, 9, 1, 1000000) {
-            Some(ns) => Nanos(ns),
-            None => Nanos(0),
-        },
-        None => Nanos(0),
-    }
+    let ns = decimals::read_decimal(text).and_then(|d| numeral::whole_worth(d, 9, 1, LONGEST));
+    Nanos(ns.unwrap_or(0))
 }
 
 // The text of a raster: a 1.4 file's own, and in 1.3 the file's, else the site's.
@@ -34,15 +32,11 @@ fn text_of<'a>(edition: Edition, file: &'a [u8], site: &'a [u8], key: &[u8]) -> 
 pub fn rasters<'a>(edition: Edition, file: &'a [u8], site: &'a [u8]) -> Rasters
     ensures { result ≡ rasters_of edition file.now site.now }
 {
-    let gradient = raster(text_of(edition, file, site, b"GradientRasterTime"));
-    let rf = raster(text_of(edition, file, site, b"RadiofrequencyRasterTime"));
-    let adc = raster(text_of(edition, file, site, b"AdcRasterTime"));
-    let block = raster(text_of(edition, file, site, b"BlockDurationRaster"));
     Rasters {
-        gradient,
-        rf,
-        adc,
-        block,
+        gradient: raster(text_of(edition, file, site, b"GradientRasterTime")),
+        rf: raster(text_of(edition, file, site, b"RadiofrequencyRasterTime")),
+        adc: raster(text_of(edition, file, site, b"AdcRasterTime")),
+        block: raster(text_of(edition, file, site, b"BlockDurationRaster")),
     }
 }
 
@@ -50,19 +44,9 @@ pub fn rasters<'a>(edition: Edition, file: &'a [u8], site: &'a [u8]) -> Rasters
 pub fn is_lacking(edition: Edition, rasters: Rasters) -> bool
     ensures { result ≡ lacks edition rasters }
 {
-    if rasters.gradient.0 == 0 {
-        return true;
-    }
-    if rasters.rf.0 == 0 {
-        return true;
-    }
+    let lacks_first = rasters.gradient.0 == 0 || rasters.rf.0 == 0;
     match edition {
-        Edition::V13 => false,
-        Edition::V14 => {
-            if rasters.adc.0 == 0 {
-                return true;
-            }
-            rasters.block.0 == 0
-        }
+        Edition::V13 => lacks_first,
+        Edition::V14 => lacks_first || rasters.adc.0 == 0 || rasters.block.0 == 0,
     }
 }

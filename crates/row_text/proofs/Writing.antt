@@ -41,14 +41,27 @@ pub decimal-text : (vs : List ℤ) → field_text Decimal vs ≡ decimal_text (r
 unfolding field_text
 decimal-text vs = refl
 
+-- a column that is no decimal and not absent holds a whole number
+pub whole-other : (k : Kind) → (k ≡ Decimal → ⊥) → (k ≡ Absent → ⊥) → is_whole k ≡ true
+whole-other Id d a = refl
+whole-other Reference d a = refl
+whole-other Required d a = refl
+whole-other Micros d a = refl
+whole-other Duration d a = refl
+whole-other Count d a = refl
+whole-other Natural d a = refl
+whole-other Decimal d a = absurd (d refl)
+whole-other Dwell d a = refl
+whole-other Absent d a = absurd (a refl)
+
 -- ---- put_field
 first-at : (row : List ℤ) (w : ℕ) → get_or (drop w row) 0 (pos 0) ≡ get_or row w (pos 0)
 first-at row w = get_or-drop w row 0 (pos 0) ∙ ap (λ (k : ℕ). get_or row k (pos 0)) (add-zero w)
 
 module _ {l l' : List ℕ} {at r : ℕ} (kind : Kind) (row : List ℤ) (w : ℕ) where
-  pub wrote-whole : (k : Kind) (z : ℤ) → kind ≡ k → is_whole k ≡ true → z ≡ get_or row w (pos 0) → Put l at (signed_text z) r l'
+  pub wrote-whole : (z : ℤ) → is_whole kind ≡ true → z ≡ get_or row w (pos 0) → Put l at (signed_text z) r l'
       → Put l at (field_text kind (drop w row)) r l'
-  wrote-whole k z e f g p = rw (e, whole-text k (drop w row) f, first-at row w, ← g) p
+  wrote-whole z f g p = rw (whole-text kind (drop w row) f, first-at row w, ← g) p
 
   pub wrote-decimal : (m e : ℤ) → kind ≡ Decimal → m ≡ get_or row w (pos 0) → e ≡ get_or row (w + 1) (pos 0)
       → Put l at (decimal_text (record { mantissa = m; exponent = e })) r l' → Put l at (field_text kind (drop w row)) r l'

@@ -16,16 +16,8 @@ fn width_of(kind: Kind) -> usize
     ensures { result ≡ width_of kind }
 {
     match kind {
-        Kind::Id => 1,
-        Kind::Reference => 1,
-        Kind::Required => 1,
-        Kind::Micros => 1,
-        Kind::Duration => 1,
-        Kind::Count => 1,
-        Kind::Natural => 1,
         Kind::Decimal => 2,
-        Kind::Dwell => 1,
-        Kind::Absent => 1,
+        _ => 1,
     }
 }
 
@@ -33,10 +25,7 @@ fn width_of(kind: Kind) -> usize
 fn number_at(row: &[i64], w: usize) -> i64
     ensures { result ≡ get_or row.now w (pos 0) }
 {
-    if w < row.len() {
-        return row[w];
-    }
-    0
+    row.get(w).copied().unwrap_or(0)
 }
 
 // Writes what a column holds, from its place in the row on.
@@ -47,22 +36,14 @@ fn put_field(out: &mut [u8], at: usize, kind: Kind, row: &[i64], w: usize) -> us
     let first = number_at(row, w);
     match kind {
         Kind::Decimal => {
-            let second = number_at(row, w + 1);
             let d = Decimal {
                 mantissa: first,
-                exponent: second,
+                exponent: number_at(row, w + 1),
             };
             print::put_decimal(out, at, d)
         }
-        Kind::Absent => output::put_bytes(out, at, b""),
-        Kind::Id => print::put_signed(out, at, first),
-        Kind::Reference => print::put_signed(out, at, first),
-        Kind::Required => print::put_signed(out, at, first),
-        Kind::Micros => print::put_signed(out, at, first),
-        Kind::Duration => print::put_signed(out, at, first),
-        Kind::Count => print::put_signed(out, at, first),
-        Kind::Natural => print::put_signed(out, at, first),
-        Kind::Dwell => print::put_signed(out, at, first),
+        Kind::Absent => at,
+        _ => print::put_signed(out, at, first),
     }
 }
 
@@ -72,9 +53,9 @@ fn put_column(out: &mut [u8], at: usize, kind: Kind, row: &[i64], w: usize) -> u
     ensures { Put out.old at (column_text kind (drop w row.now)) result out.new }
 {
     if columns::is_absent(kind) {
-        return output::put_bytes(out, at, b"");
+        return at;
     }
-    let next = output::put_byte(out, at, 32);
+    let next = output::put_byte(out, at, b' ');
     put_field(out, next, kind, row, w)
 }
 
@@ -84,13 +65,11 @@ pub fn put_row(out: &mut [u8], at: usize, edition: Edition, form: Form, row: &[i
 {
     let mut place = put_field(out, at, Kind::Id, row, 1);
     let count = columns::column_count(form, edition);
-    let mut w: usize = 2;
-    let mut j: usize = 1;
-    while j < count {
+    let mut w = 2;
+    for j in 1..count {
         let kind = columns::kind_at(edition, form, j);
         place = put_column(out, place, kind, row, w);
         w += width_of(kind);
-        j += 1;
     }
     place
 }

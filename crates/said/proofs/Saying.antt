@@ -12,14 +12,12 @@ use Rattle.signed.specs.Signed.{same_z, signed_of, largest}
 use Rattle.output.specs.Over.{farthest, Put}
 use Rattle.output.proofs.Over.{put_then}
 use Rattle.output.proofs.Partly.{Partly, partly_none, partly-length, partly_more, partly-all}
-use Rattle.unit.specs.Time.{on_raster}
 use Rattle.shape.specs.declared.Edition.{Edition}
-use Rattle.shape.specs.declared.Edition.TheVariants.{V13, V14}
+use Rattle.shape.specs.declared.Edition.TheVariants.{V13}
 use Rattle.columns.specs.declared.Form.{Form}
 use Rattle.tables.specs.Tables.{number_at}
-use Rattle.sayable.specs.Sayable.{nanos_at}
 use Rattle.durations.specs.Durations.{delay_number}
-use Rattle.said.specs.Said.{numbers_from, numbers_at, steps_of, duration_of, duration_number, said_row, is_of_form, line_text, row_line, lines_text, section_of}
+use Rattle.said.specs.Said.{numbers_from, numbers_at, duration_of, duration_number, said_row, is_of_form, line_text, row_line, lines_text, section_of}
 
 -- ---- the numbers of a row: those so far, and those that are left
 pub record Copying (rows : List ℤ) (k : ℕ) (cells : List ℤ) (c : ℕ) : Type 0 where
@@ -58,10 +56,6 @@ module _ (target : Edition) (raster : ℕ) (rows : List ℤ) (n k : ℕ) where
   pub duration-13 : target ≡ V13 → delay_number rows n k ≡ duration_of target raster rows n k
   unfolding duration_of
   duration-13 e = rw e
-
-  pub duration-14 : target ≡ V14 → (ns : ℕ) → ns ≡ nanos_at rows k → steps_of (on_raster ns raster) ≡ duration_of target raster rows n k
-  unfolding duration_of
-  duration-14 e ns p = rw (e, p)
 
   pub duration-is : (d : ℕ) → d ≡ duration_of target raster rows n k → (r : ℤ) → r ≡ signed_of false (min d largest) → r ≡ duration_number target raster rows n k
   unfolding duration_number signed_of

@@ -1,41 +1,28 @@
--- One test after another, and the edition's own. Assumes nothing.
-use Prim.Native.Nat.{ℕ, ◌-◌, ◌<◌}
-use mathlib.Core.Bool.{Bool, true, false, not, ◌&&◌, ◌||◌}
+-- One test after another, the edition's own, and whether a test holds for one of n rows. Assumes nothing.
+use Prim.Native.Nat.{ℕ, zero, suc, ◌+◌}
+use mathlib.Core.Bool.{Bool, true, false, cond, ◌||◌, ◌&&◌}
 use mathlib.Core.List.{List}
-use mathlib.Core.Path.{◌≡◌}
+use mathlib.Core.Path.{◌≡◌, sym}
+use native.Mathlib.Nat.{add-suc, suc-add}
+use native.Mathlib.Numerals.{add-one}
 use native.Mathlib.Omega.{arith}
-use borrow.Author.Tests.{eq-eqb, ne_eqb, lt-ltb, le-ltb}
-use lib.Dec.{eqb, ltb}
+use borrow.Author.Tests.{lt-ltb, le-ltb}
+use lib.Dec.{ltb}
 use lib.IntN.{ℤ}
+use Rattle.std.specs.List.{list_any, range_with_len}
 use Rattle.unit.specs.declared.Rasters.{Rasters}
 use Rattle.shape.specs.declared.Edition.{Edition}
 use Rattle.shape.specs.declared.Edition.TheVariants.{V13, V14}
 use Rattle.tables.specs.Tables.{first_such}
-use Rattle.sayable.specs.Sayable.{unsaid13, unsaid14, unsaid_in, differ, differ_in}
+use Rattle.sayable.specs.Sayable.{unsaid13, unsaid14, unsaid_in}
 
--- ---- one of two, and both
+-- ---- both of two
 module _ {a c : Bool} (b : Bool) where
-  pub or-first : c ≡ a → c ≡ true → true ≡ a || b
-  or-first p e = rw (← p, e)
-
-  pub or-then : c ≡ a → c ≡ false → {d : Bool} → d ≡ b → d ≡ a || b
-  or-then p e q = rw (← p, e) q
-
   pub and_no : c ≡ a → c ≡ false → false ≡ a && b
   and_no p e = rw (← p, e)
 
   pub and_then : c ≡ a → c ≡ true → {d : Bool} → d ≡ b → d ≡ a && b
   and_then p e q = rw (← p, e) q
-
--- ---- rasters
-module _ (q s : Rasters) where
-  pub differ-first : (q.gradient.0 ≡ s.gradient.0 → ⊥) → true ≡ differ q s
-  unfolding differ
-  differ-first n = rw (ne_eqb q.gradient.0 s.gradient.0 n)
-
-  pub differ-second : q.gradient.0 ≡ s.gradient.0 → not (eqb q.rf.0 s.rf.0) ≡ differ q s
-  unfolding differ
-  differ-second e = rw (eq-eqb q.gradient.0 s.gradient.0 e)
 
 -- ---- the target's own
 module _ (target : Edition) (q : Rasters) (rows : List ℤ) (k : ℕ) where
@@ -47,19 +34,20 @@ module _ (target : Edition) (q : Rasters) (rows : List ℤ) (k : ℕ) where
   unfolding unsaid_in
   in-14 e = rw e
 
-module _ (target : Edition) (q s : Rasters) where
-  pub differ-13 : target ≡ V13 → differ q s ≡ differ_in target q s
-  unfolding differ_in
-  differ-13 e = rw e
-
-  pub differ-14 : target ≡ V14 → false ≡ differ_in target q s
-  unfolding differ_in
-  differ-14 e = rw e
-
 -- ---- whether something holds for one of n rows
-module _ (holds : ℕ → Bool) (n : ℕ) where
-  pub some-such : (k : ℕ) → k < n → k ≡ first_such holds 0 n → true ≡ ltb (first_such holds 0 n) n
-  some-such k h p = rw (← p, lt-ltb k n h)
+module _ (holds : ℕ → Bool) where
+  any-from : (k m : ℕ) → list_any holds (range_with_len k m) ≡ ltb (first_such holds k m) (k + m)
+  unfolding first_such
+  any-from k zero = sym (le-ltb k (k + 0) (omega arith))
+  any-from k (suc m) = go (holds k) (any-from (suc k) m)
+    where
+      go : (b : Bool) → list_any holds (range_with_len (suc k) m) ≡ ltb (first_such holds (suc k) m) (suc k + m)
+          → (b || list_any holds (range_with_len (k + 1) m)) ≡ ltb (cond b k (first_such holds (suc k) m)) (k + suc m)
+      go true e = sym (lt-ltb k (k + suc m) (omega arith))
+      go false e = rw (add-one k, add-suc k m, ← suc-add k m) e
 
-  pub no_such : n ≡ first_such holds 0 n → false ≡ ltb (first_such holds 0 n) n
-  no_such p = rw (← p, le-ltb n n (omega arith))
+  pub no_such : (n : ℕ) → n ≡ first_such holds 0 n → false ≡ ltb (first_such holds 0 n) n
+  no_such n p = rw (← p, le-ltb n n (omega arith))
+
+  pub any-such : (n : ℕ) → list_any holds (range_with_len 0 n) ≡ ltb (first_such holds 0 n) n
+  any-such n = let z : 0 + n ≡ n = omega arith in rw z at (any-from 0 n)

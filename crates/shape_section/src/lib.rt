@@ -11,9 +11,9 @@ fn put_word(out: &mut [u8], at: usize, word: &[u8], z: i64) -> usize
     ensures { Put out.old at (word_line word.now z) result out.new }
 {
     let space = output::put_bytes(out, at, word);
-    let number = output::put_byte(out, space, 32);
+    let number = output::put_byte(out, space, b' ');
     let feed = print::put_signed(out, number, z);
-    output::put_byte(out, feed, 10)
+    output::put_byte(out, feed, b'\n')
 }
 
 // Writes the shape of row k as the target does, and a blank line.
@@ -47,7 +47,7 @@ fn put_if(
     if sayable::is_kind(rows, k, 11) {
         return put_shape(out, at, target, rows, samples, k);
     }
-    output::put_bytes(out, at, b"")
+    at
 }
 
 // Writes all shapes among n rows.
@@ -62,10 +62,8 @@ fn put_shapes(
     ensures { Put out.old at (shapes_text target rows.now n samples.now) result out.new }
 {
     let mut place = at;
-    let mut k: usize = 0;
-    while k < n {
+    for k in 0..n {
         place = put_if(out, place, target, rows, samples, k);
-        k += 1;
     }
     place
 }
@@ -85,5 +83,5 @@ pub fn put_shape_section(
         let body = output::put_bytes(out, at, b"[SHAPES]\n");
         return put_shapes(out, body, target, rows, n, samples);
     }
-    output::put_bytes(out, at, b"")
+    at
 }

@@ -2,18 +2,19 @@
 -- `within` gives where. Also the bounds of the size of a sum and of a difference, which omega reads.
 -- Assumes nothing.
 use Rattle.std.proofs.Common.{None, Option, Some}
-use Prim.Native.Nat.{ℕ, zero, suc, ◌+◌, ◌≤◌, ◌<◌, min}
-use mathlib.Core.Path.{◌≡◌, refl, sym, ap, ap₂, ◌∙◌}
-use mathlib.Core.Bool.{Bool, true, false, not, cond}
+use Prim.Native.Nat.{ℕ, zero, suc, ◌+◌, ◌^◌, ◌≤◌, ◌<◌, min}
+use mathlib.Core.Path.{◌≡◌, refl, sym, ap, ◌∙◌}
+use mathlib.Core.Bool.{Bool, true, false, cond}
 use native.Mathlib.Omega.{arith}
-use lib.Dec.{leb}
+use lib.Dec.{eqb, leb}
+use lib.Signed.{mag}
 use lib.IntN.{ℤ, pos, negsuc, nat_abs, neg_ℤ, sub_ℕ, ◌+ℤ◌, ◌-ℤ◌}
 use mir.Syntax.{w64}
-use mir.Val.{SFits}
-use borrow.Author.Tests.{eqb-true, eq-eqb, leb-true, le-leb, lt-leb}
+use mir.Val.{SFits, of_z}
+use borrow.Author.Tests.{eqb-true, eq-eqb, ne_eqb, leb-true, le-leb, lt-leb}
 use Rattle.signed.specs.Signed.{same_z, is_negative, largest, signed_of, within}
-use Rattle.signed.proofs.Machine.{rd, rd-is}
-use Rattle.signed.proofs.Difference.{sub_same, sub-pos, sub-neg-pos, sub-add, sub-abs}
+use Rattle.signed.proofs.Machine.{unfit-large, bits-inj}
+use Rattle.signed.proofs.Difference.{sub-pos, sub-neg-pos, sub-abs}
 
 -- a number is its sign before its size
 
@@ -21,10 +22,6 @@ pub sign-size : (z : ℤ) → signed_of (is_negative z) (nat_abs z) ≡ z
 unfolding signed_of is_negative
 sign-size (pos n) = refl
 sign-size (negsuc n) = refl
-
--- the same where the sign and the size were read from a local
-pub sign-size-read : {z : ℤ} {s : Bool} {n : ℕ} → SFits w64 z → s ≡ is_negative (rd z) → n ≡ nat_abs (rd z) → signed_of s n ≡ z
-sign-size-read {z} f p q = ap₂ signed_of p q ∙ sign-size (rd z) ∙ rd-is f
 
 pub size-signed : (s : Bool) (n : ℕ) → nat_abs (signed_of s n) ≡ n
 unfolding signed_of
@@ -42,17 +39,6 @@ pub signed_sub : (s : Bool) (n : ℕ) → signed_of s n ≡ sub_ℕ (cond s 0 n)
 unfolding signed_of
 signed_sub true n = sub-neg-pos n
 signed_sub false n = sub-pos n
-
--- a sum of two signed sizes is a third: with the signs known, e is omega's
-pub signed-sum : (s t u : Bool) (a b n : ℕ) → cond s 0 a + cond t 0 b + cond u n 0 ≡ cond u 0 n + (cond s a 0 + cond t b 0)
-    → signed_of s a +ℤ signed_of t b ≡ signed_of u n
-signed-sum s t u a b n e = ap₂ ◌+ℤ◌ (signed_sub s a) (signed_sub t b) ∙ sub-add (cond s 0 a) (cond s a 0) (cond t 0 b) (cond t b 0) ∙ sub_same (cond s 0 a + cond t 0 b) (cond s a 0 + cond t b 0) (cond u 0 n) (cond u n 0) e ∙ sym (signed_sub u n)
-
-pub signed-neg : (s : Bool) (n : ℕ) → neg_ℤ (signed_of s n) ≡ signed_of (not s) n
-unfolding signed_of
-signed-neg true zero = refl
-signed-neg true (suc n) = refl
-signed-neg false n = refl
 
 pub negative-signed : (n : ℕ) → 0 < n → is_negative (signed_of true n) ≡ true
 unfolding signed_of is_negative
@@ -80,6 +66,17 @@ same_z-true (negsuc a) (negsuc b) e = ap negsuc (eqb-true a b e)
 pub same_z-false : (a b : ℤ) → same_z a b ≡ false → a ≡ b → ⊥
 same_z-false a b e q = let z : ◌≡◌ {A = Bool} true false = sym (same_z-refl a) ∙ ap (same_z a) q ∙ e in let y : ◌≡◌ {A = ℕ} 0 1 = cc in omega arith
 
+-- the machine's test `a == b`, of two numbers and of a number and a literal
+pub same_bits : (a b : ℤ) → mag a < 2 ^ 63 → mag b < 2 ^ 63 → eqb (of_z w64 a) (of_z w64 b) ≡ same_z a b
+same_bits a b f g = go (same_z a b) refl
+  where
+    go : (t : Bool) → same_z a b ≡ t → eqb (of_z w64 a) (of_z w64 b) ≡ same_z a b
+    go true e = eq-eqb _ _ (ap (of_z w64) (same_z-true a b e)) ∙ sym e
+    go false e = ne_eqb _ _ (λ q. same_z-false a b e (bits-inj (record { sfits = f }) (record { sfits = g }) q)) ∙ sym e
+
+pub same_number : (z : ℤ) (n : ℕ) → mag z < 2 ^ 63 → n < 2 ^ 63 → eqb (of_z w64 z) n ≡ same_z z (pos n)
+same_number z n f g = same_bits z (pos n) f g
+
 -- sums that are asked to stay within a size
 
 module _ (most : ℕ) (z : ℤ) where
@@ -99,13 +96,10 @@ module _ (most : ℕ) (z : ℤ) where
       go true f = let g : ◌≡◌ {A = (Option ℤ)} (Some z) (Some y) = rw f at e in (cc, omega (arith, leb-true (nat_abs z) (min most largest) f))
       go false f = let g : ◌≡◌ {A = (Option ℤ)} None (Some y) = rw f at e in let n : ◌≡◌ {A = ℕ} 0 1 = cc in absurd (omega arith)
 
-  within-min : within (min most largest) z ≡ within most z
+  -- what does not fit an i64 is beyond every size
+  pub within-unfit : (SFits w64 z → ⊥) → within most z ≡ None
   unfolding within
-  within-min = let e : min (min most largest) largest ≡ min most largest = omega arith in rw e
-
--- the sum of x and y within `top`, where these are known
-pub within-sum : {r : (Option ℤ)} {top : ℕ} {x y a b : ℤ} (most : ℕ) → r ≡ within top (x +ℤ y) → top ≡ min most largest → x ≡ a → y ≡ b → r ≡ within most (a +ℤ b)
-within-sum {a = a} {b = b} most e t p q = e ∙ ap₂ within t (ap₂ ◌+ℤ◌ p q) ∙ within-min most (a +ℤ b)
+  within-unfit h = let large = unfit-large z h in rw (lt-leb (nat_abs z) (min most largest) (omega arith))
 
 -- the size of a sum and of a difference
 

@@ -6,7 +6,7 @@ ghost use Rattle.std.specs.Prelude.{◌≡◌, ◌+◌, ◌*◌, max, ltb};
 ghost use Rattle.unit.specs.Time.{capped, in_micros, on_raster};
 
 // A time in nanoseconds; also the length of one step of a raster.
-#[derive(Clone, Copy)]
+#[derive(Clone, Copy, PartialEq, Eq, PartialOrd)]
 pub struct Nanos(pub u64);
 
 // A time in microseconds.
@@ -26,25 +26,12 @@ pub struct Rasters {
     pub block: Nanos,
 }
 
-// a * b, or the end of the scale.
-fn product(a: u64, b: u64) -> u64
-    ensures { result ≡ capped (a * b) }
-{
-    if b == 0 {
-        return 0;
-    }
-    if 18446744073709551615 / b < a {
-        return 18446744073709551615;
-    }
-    a * b
-}
-
 impl Micros {
     // The same time in nanoseconds.
     pub fn nanos(self) -> Nanos
         ensures { result.0 ≡ capped (self.0 * 1000) }
     {
-        Nanos(product(self.0, 1000))
+        Nanos(self.0.saturating_mul(1000))
     }
 }
 
@@ -53,7 +40,7 @@ impl RasterCount {
     pub fn nanos(self, raster: Nanos) -> Nanos
         ensures { result.0 ≡ capped (self.0 * raster.0) }
     {
-        Nanos(product(self.0, raster.0))
+        Nanos(self.0.saturating_mul(raster.0))
     }
 }
 
@@ -62,54 +49,37 @@ impl Nanos {
     pub fn micros(self) -> Option<Micros>
         ensures { result ≡ in_micros self.0 }
     {
-        let n = self.0;
-        if n % 1000 == 0 {
-            return Some(Micros(n / 1000));
-        }
-        None
+        self.0.is_multiple_of(1000).then_some(Micros(self.0 / 1000))
     }
 
     // This time as whole steps of a raster, where it is that.
     pub fn steps(self, raster: Nanos) -> Option<RasterCount>
         ensures { result ≡ on_raster self.0 raster.0 }
     {
-        let n = self.0;
-        let step = raster.0;
-        if step == 0 {
+        if raster.0 == 0 || self.0 % raster.0 != 0 {
             return None;
         }
-        if n % step == 0 {
-            return Some(RasterCount(n / step));
-        }
-        None
+        Some(RasterCount(self.0 / raster.0))
     }
 
     // One time after the other.
     pub fn plus(self, other: Nanos) -> Nanos
         ensures { result.0 ≡ capped (self.0 + other.0) }
     {
-        let a = self.0;
-        let b = other.0;
-        if 18446744073709551615 - a < b {
-            return Nanos(18446744073709551615);
-        }
-        Nanos(a + b)
+        Nanos(self.0.saturating_add(other.0))
     }
 
     // The longer of two times.
     pub fn longer(self, other: Nanos) -> Nanos
         ensures { result.0 ≡ max self.0 other.0 }
     {
-        if self.0 < other.0 {
-            return other;
-        }
-        self
+        Nanos(self.0.max(other.0))
     }
 
     // Is this time longer than the other?
     pub fn exceeds(self, other: Nanos) -> bool
         ensures { result ≡ ltb other.0 self.0 }
     {
-        other.0 < self.0
+        other < self
     }
 }

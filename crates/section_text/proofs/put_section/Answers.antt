@@ -1,7 +1,8 @@
 -- `section_text::put_section` meets its contract. Assumes nothing.
+use Rattle.std.proofs.Common.{◌∙◌, arith}
+use Rattle.output.proofs.Over.{put-none}
 use Rattle.section_text.proofs.Putting.{form-some, form-none}
 use Rattle.signed.proofs.Machine.{rd-at}
-use mathlib.Core.Path.{◌∙◌}
 use Rattle.section_text.proofs.put_section.Goals as goal
 
 pub returns-then-has_kind : goal.returns-then-has_kind
@@ -10,4 +11,4 @@ returns-then-has_kind c = let f = c.form_number in
 
 pub returns : goal.returns
 returns c = let f = c.form_number in
-    rw (← form-none _ _ _ _ _ _ _ (rd-at _ f.type_inv ∙ f.ensures) c.has_kind.ensures c.if-has_kind.false) c.put_bytes.ensures
+    rw (← form-none _ _ _ _ _ _ _ (rd-at _ f.type_inv ∙ f.ensures) c.has_kind.ensures c.if-has_kind.false) (put-none (omega arith) (omega arith))

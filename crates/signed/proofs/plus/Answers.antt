@@ -1,11 +1,8 @@
--- `signed::plus` meets its contract: each number is its sign before its size. Assumes nothing.
-use Rattle.signed.proofs.Sign.{sign-size-read, within-sum}
+-- `signed::plus` meets its contract: what does not fit an i64 is beyond every size. Assumes nothing.
+use Rattle.std.proofs.Common.{sym, ◌∙◌}
+use Rattle.signed.proofs.Machine.{rd-is}
+use Rattle.signed.proofs.Sign.{within-unfit}
 use Rattle.signed.proofs.plus.Goals as goal
 
-pub returns : goal.returns
-returns c =
-    let t = c.before.before.before.before in
-    let s = t.before.before in
-    within-sum s.args.most c.added.ensures t.least-top.ensures
-    (sign-size-read s.ranges.a t.is_negative.ensures c.size.ensures)
-    (sign-size-read s.ranges.b c.is_negative-2.ensures c.size-2.ensures)
+pub returns-in_err-checked_add : goal.returns-in_err-checked_add
+returns-in_err-checked_add c = c.from_residual.ensures ∙ sym (within-unfit _ _ (λ f. c.in_err-checked_add.ensures (rw (rd-is c.ranges.a, rd-is c.ranges.b) f)))
