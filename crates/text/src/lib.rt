@@ -9,7 +9,7 @@ ghost use Rattle.text.specs.Blanks.{skipped};
 ghost use Rattle.text.specs.Words.{same_bytes};
 
 // The most bytes that a line may have.
-const LONGEST: usize = 1024;
+pub const LONGEST: usize = 1024;
 
 // A line that starts at a place: where its text stops, and where the next line starts.
 #[derive(Clone, Copy)]
