@@ -1,12 +1,12 @@
--- What a turn of cut_line does, and what a caller learns of it: the line that next_line finds, and whether it is clean. Assumes nothing.
+-- Control bytes; what a turn of cut_line does, and what a caller learns of it: the line that next_line finds, and whether it is clean. Assumes nothing.
 use Prim.Native.Nat.{ℕ, zero, suc, ◌+◌, ◌-◌, ◌≤◌, ◌<◌}
-use mathlib.Core.Bool.{Bool, true, false, not, true≢false}
+use mathlib.Core.Bool.{Bool, true, false, not, and-true, or-false, true≢false}
 use mathlib.Core.List.{List, ◌∷◌}
-use mathlib.Core.Path.{◌≡◌, sym, ap}
+use mathlib.Core.Path.{◌≡◌, sym, ap, ◌∙◌}
 use native.Mathlib.Numerals.{add-one}
 use native.Mathlib.Omega.{arith}
-use borrow.Author.Tests.{eq-eqb, ne_eqb}
-use lib.Dec.{eqb}
+use borrow.Author.Tests.{lt-ltb, le-ltb, eq-eqb, ne_eqb}
+use lib.Dec.{eqb, ltb, leb-suc-suc}
 use lib.ListN.{length, get_or, take, drop, drop_of_length-le}
 use lib.Seq.{drop-cons}
 use Rattle.text.specs.Lines.{bare_of, bare_len, line_at}
@@ -24,6 +24,18 @@ cut-is : (text : List ℕ) (at : ℕ) (l : Line) (clean : Bool) → l ≡ line_a
     → ◌≡◌ {A = Piece} (record { stop = l.stop; next = l.next; clean = clean }) (cut_at text at)
 unfolding cut_at
 cut-is text at l clean p q = rw (p, q)
+
+-- ---- control bytes
+module _ (b : ℕ) where
+  pub control-other : (b ≡ 127 → ⊥) → (b ≡ 9 → ⊥) → ltb b 32 ≡ is_control b
+  unfolding is_control
+  control-other n m = rw (ne_eqb b 127 n, ne_eqb b 9 m, and-true, or-false) (leb-suc-suc b 31)
+
+  pub control-low : b < 32 → (b ≡ 9 → ⊥) → true ≡ is_control b
+  control-low h m = sym (lt-ltb b 32 h) ∙ control-other (λ (e : b ≡ 127). omega arith) m
+
+  pub control-high : 32 ≤ b → (b ≡ 127 → ⊥) → false ≡ is_control b
+  control-high h n = sym (le-ltb b 32 h) ∙ control-other n (λ (e : b ≡ 9). omega arith)
 
 -- ---- one byte at a time
 -- LF and CR are control bytes

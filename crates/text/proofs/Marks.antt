@@ -3,12 +3,13 @@ use Prim.Native.Nat.{ℕ, suc, ◌≤◌, ◌<◌}
 use mathlib.Core.Bool.{Bool, true, false, cond, not, and-false}
 use mathlib.Core.List.{List, [], ◌∷◌}
 use mathlib.Core.Path.{◌≡◌, refl, sym, ap, ◌∙◌}
-use borrow.Author.Tests.{eq-eqb, ne_eqb, le-ltb, not-true}
+use borrow.Author.Tests.{eq-eqb, ne_eqb, lt-ltb, le-ltb, not-true}
 use Rattle.std.specs.List.{list_any}
 use lib.ListN.{length, get_or, drop, drop_of_length-le}
 use lib.Seq.{drop-cons}
-use Rattle.text.specs.Marks.{is_blank, mark_of, is_control, any_control, breaks_line}
+use Rattle.text.specs.Marks.{is_blank, mark_of, is_comment, is_control, any_control, breaks_line}
 use Rattle.text.specs.Blanks.{blank_len, skipped}
+use Rattle.text.specs.declared.Mark.{Mark}
 use Rattle.text.specs.declared.Mark.TheVariants.{Blank, Comment, Section, Plain}
 use Rattle.text.proofs.Blanks.{skip-drop, skip-ends}
 
@@ -54,8 +55,18 @@ unfolding any_control
 any_list [] = refl
 any_list (b ∷ s) = rw (any_list s)
 
-module _ (line : List ℕ) (h : length line ≤ 1024) where
-  -- a short clean line
-  pub breaks-clean : (clean : Bool) → clean ≡ not (any_control line) → clean ≡ true → breaks_line line ≡ false
+module _ (line : List ℕ) where
+  pub breaks-long : 1024 < length line → true ≡ breaks_line line
   unfolding breaks_line
-  breaks-clean clean e f = rw (le-ltb 1024 (length line) h, not-true (any_control line) (sym e ∙ f), and-false)
+  breaks-long h = rw (lt-ltb 1024 (length line) h)
+
+  module _ (h : length line ≤ 1024) where
+    -- a short clean line
+    pub breaks-clean : (clean : Bool) → clean ≡ not (any_control line) → clean ≡ true → breaks_line line ≡ false
+    unfolding breaks_line
+    breaks-clean clean e f = rw (le-ltb 1024 (length line) h, not-true (any_control line) (sym e ∙ f), and-false)
+
+    module _ (m : Mark) (e : m ≡ mark_of line) where
+      pub breaks-other : (k : Mark) → m ≡ k → is_comment k ≡ false → any_control line ≡ breaks_line line
+      unfolding breaks_line
+      breaks-other k f n = rw (le-ltb 1024 (length line) h, ← e, f, n)
