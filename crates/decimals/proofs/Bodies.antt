@@ -15,10 +15,9 @@ use Rattle.signed.proofs.Difference.{sub_same, sub-add, sub-pos, sub-neg-pos, su
 use Rattle.signed.proofs.Sign.{size-signed}
 use Rattle.numeral.specs.Digits.{value_of, is_minus, unsigned}
 use Rattle.decimals.specs.Decimal.{fraction, digits, is_mantissa, mantissa_part, exponent_part, is_exponent, exponent_of, strip_from, kept, in_limits, is_unsigned, kept_of, decimal_of}
-use Rattle.decimals.specs.Inside.{large, mantissa_of, power_of, pair_of, joined, body_of}
+use Rattle.decimals.specs.Inside.{large, worth_of, mantissa_of, power_of, pair_of, joined, body_of}
 use Rattle.numeral.specs.declared.Decimal.{Decimal}
 use Rattle.decimals.specs.declared.Mantissa.{Mantissa}
-use Rattle.decimals.specs.declared.Mantissa.TheVariants.{Value as MantissaValue, Bad as MantissaBad}
 use Rattle.text.proofs.Cases.{true-or-false, lt-or-ge, eq-or-ne}
 use Rattle.numeral.proofs.Parts.{tail-part}
 use Rattle.decimals.proofs.Mantissas.{mantissa-inv}
@@ -74,7 +73,7 @@ module _ (negative : Bool) (v s f z : ℕ) (e : ℤ) (h : e ≡ sub_ℕ s 200) (
       (lt-or-ge 99 ((s + z - (200 + f)) + (200 + f - (s + z))))
 
 -- ---- The whole behind the sign
-mantissa-bad : (m : List ℕ) → is_mantissa m ≡ false → mantissa_of m ≡ MantissaBad
+mantissa-bad : (m : List ℕ) → is_mantissa m ≡ false → mantissa_of m ≡ None
 unfolding mantissa_of
 mantissa-bad m e = rw e
 
@@ -103,12 +102,12 @@ module _ (negative : Bool) (m : List ℕ) (x : ℤ) (s : ℕ) (h : x ≡ sub_ℕ
   joined_is : joined negative (mantissa_of m) (Some s) ≡ keeping the_kept₀
   joined_is = ⊎_elim zero_is some_is (eq-or-ne n₀ 0)
 
-joined-none : (negative : Bool) (m : Mantissa) → joined negative m None ≡ None
+joined-none : (negative : Bool) (m : Option Mantissa) → joined negative m None ≡ None
 unfolding joined
-joined-none negative (MantissaValue v z f e) = refl
-joined-none negative MantissaBad = refl
+joined-none negative (Some m) = refl
+joined-none negative None = refl
 
-joined-bad : (negative : Bool) (p : (Option ℕ)) → joined negative MantissaBad p ≡ None
+joined-bad : (negative : Bool) (p : (Option ℕ)) → joined negative None p ≡ None
 unfolding joined
 joined-bad negative p = refl
 
@@ -129,13 +128,13 @@ body-decimal negative b =
     go None e i = rw (e, i, power-bad (exponent_part b) e) (joined-none negative (mantissa_of (mantissa_part b)))
 
 -- ---- By its parts, as the code cuts them: e is where the exponent starts
-module _ (negative : Bool) (s : List ℕ) (m : Mantissa) (p : m ≡ mantissa_of (mantissa_part s)) where
-  pub body-bad : m ≡ MantissaBad → None ≡ body_of negative s
+module _ (negative : Bool) (s : List ℕ) (m : Option Mantissa) (p : m ≡ mantissa_of (mantissa_part s)) where
+  pub body-bad : m ≡ None → None ≡ body_of negative s
   unfolding body_of
   body-bad q = rw (← p, q) (sym (joined-bad negative (power_of (exponent_part s))))
 
-  module _ (v z f e : ℕ) (x : (Option ℕ)) (q : m ≡ MantissaValue v z f e) (r : x ≡ power_of (take (length s - e) (drop e s))) where
-    body_is : joined negative (MantissaValue v z f e) x ≡ body_of negative s
+  module _ (v z f e : ℕ) (x : (Option ℕ)) (q : m ≡ worth_of v z f e) (r : x ≡ power_of (take (length s - e) (drop e s))) where
+    body_is : joined negative (worth_of v z f e) x ≡ body_of negative s
     unfolding body_of exponent_part
     body_is = rw (← p, q, r, tail-part s e, (mantissa-inv (mantissa_part s) v z f e (sym p ∙ q)).1)
 

@@ -1,7 +1,8 @@
 -- Laws of digits that are gathered into 18 of them, a count of zeros and the place where they stop. Assumes nothing.
+use Rattle.std.proofs.Common.{Option, Some, None}
 use Prim.Native.Nat.{ℕ, ◌+◌, ◌*◌, ◌-◌, ◌^◌, ◌<◌, ◌≤◌}
 use mathlib.Core.List.{List, [], ◌∷◌, ◌++◌}
-use mathlib.Core.Bool.{true, false}
+use mathlib.Core.Bool.{Bool, true, false}
 use mathlib.Core.Path.{◌≡◌, refl, ap, ◌∙◌}
 use mathlib.Core.Logic.{◌⊎◌, inl, inr, ⊎_elim}
 use native.Mathlib.Omega.{arith}
@@ -12,9 +13,8 @@ use lib.Dec.{lit<}
 use lib.ListN.{length, drop}
 use Rattle.numeral.specs.Digits.{is_digit, all_digits, value_from}
 use Rattle.decimals.specs.Decimal.{up_to, digits, mantissa_part, strip_from}
-use Rattle.decimals.specs.Inside.{stop_of, gather_of, full, large}
+use Rattle.decimals.specs.Inside.{stop_of, gather_of, at_point, at_end, full, large}
 use Rattle.decimals.specs.declared.Gathered.{Gathered}
-use Rattle.decimals.specs.declared.Gathered.TheVariants.{Point, End, Bad}
 use Rattle.text.proofs.Cases.{true-or-false, lt-or-ge, eq-or-ne, and_both}
 use Rattle.numeral.proofs.Digits.{digit-least, digit-most, all_digits-append, value_from-append}
 use Rattle.decimals.proofs.Parts.{lead, rest, lead-more, lead-none, lead-digits, part-next, digits-next}
@@ -29,7 +29,7 @@ pub gather-zero : (v z i b : ℕ) (s : List ℕ) → is_digit b ≡ true → ful
 unfolding gather_of
 gather-zero v z i b s d h e = simp (d, le-ltb v full h, eq-eqb b 48 e)
 
-pub gather-over : (v z i b : ℕ) (s : List ℕ) → is_digit b ≡ true → full ≤ v → (b ≡ 48 → ⊥) → gather_of v z i (b ∷ s) ≡ Bad
+pub gather-over : (v z i b : ℕ) (s : List ℕ) → is_digit b ≡ true → full ≤ v → (b ≡ 48 → ⊥) → gather_of v z i (b ∷ s) ≡ None
 unfolding gather_of
 gather-over v z i b s d h e = simp (d, le-ltb v full h, ne_eqb b 48 e)
 
@@ -48,21 +48,21 @@ cases v b add nil more other =
 
 -- ---- the four cases of a byte that is no digit
 module _ (b v z i : ℕ) where
-  pub stop-point : b ≡ 46 → Point v z i ≡ stop_of b v z i
+  pub stop-point : b ≡ 46 → at_point v z i ≡ stop_of b v z i
   unfolding stop_of
   stop-point e = rw (eq-eqb b 46 e)
 
   module _ (p : b ≡ 46 → ⊥) where
-    pub stop-e : b ≡ 101 → End v z i ≡ stop_of b v z i
+    pub stop-e : b ≡ 101 → at_end v z i ≡ stop_of b v z i
     unfolding stop_of
     stop-e e = rw (ne_eqb b 46 p, eq-eqb b 101 e)
 
     module _ (q : b ≡ 101 → ⊥) where
-      pub stop-capital : b ≡ 69 → End v z i ≡ stop_of b v z i
+      pub stop-capital : b ≡ 69 → at_end v z i ≡ stop_of b v z i
       unfolding stop_of
       stop-capital e = rw (ne_eqb b 46 p, ne_eqb b 101 q, eq-eqb b 69 e)
 
-      pub stop-other : (b ≡ 69 → ⊥) → Bad ≡ stop_of b v z i
+      pub stop-other : (b ≡ 69 → ⊥) → None ≡ stop_of b v z i
       unfolding stop_of
       stop-other r = rw (ne_eqb b 46 p, ne_eqb b 101 q, ne_eqb b 69 r)
 
@@ -130,10 +130,14 @@ unfolding Lost all_digits
 lost-here b n s d = inl (rw d)
 
 -- ---- what each answer says
-unfoldable pub Says : List ℕ → ℕ → ℕ → ℕ → Gathered → Type 0
-Says s v z i (Point w k j) = GatheredAs s v z i w k j × (rest s ≡ 46 ∷ drop (length (lead s) + 1) s)
-Says s v z i (End w k j) = GatheredAs s v z i w k j × (mantissa_part (rest s) ≡ [])
-Says s v z i Bad =
+-- where the digits stop: at a point, or where the mantissa ends
+unfoldable pub Stops : List ℕ → Bool → Type 0
+Stops s true = rest s ≡ 46 ∷ drop (length (lead s) + 1) s
+Stops s false = mantissa_part (rest s) ≡ []
+
+unfoldable pub Says : List ℕ → ℕ → ℕ → ℕ → Option Gathered → Type 0
+Says s v z i (Some g) = GatheredAs s v z i g.v g.zeros g.stop × Stops s g.pointed
+Says s v z i None =
     Lost (mantissa_part (rest s)) (value_from (v * 10 ^ z) (lead s)) × Lost (digits (mantissa_part (rest s))) (value_from (v * 10 ^ z) (lead s))
 
 gathered_none : (s : List ℕ) (v z i : ℕ) → lead s ≡ [] → Packed v z → GatheredAs s v z i v z i
@@ -154,19 +158,23 @@ gathered_next b s v z i w k v' z' i' d e l g =
       zeros = rw (lead-more b s d) (let h = g.zeros in omega arith);
     }
 
+stops-next : (b : ℕ) (s : List ℕ) → is_digit b ≡ true → (point : Bool) → Stops s point → Stops (b ∷ s) point
+unfolding Stops
+stops-next b s d true h = rw (lead-more b s d, add-one) (rw add-one at h)
+stops-next b s d false h = rw (lead-more b s d) h
+
 -- a digit more: from v with z zeros to w with k
-says-next : (b : ℕ) (s : List ℕ) (v z i w k : ℕ) (g : Gathered) → is_digit b ≡ true → v * 10 ^ z * 10 + (b - 48) ≡ w * 10 ^ k → k ≤ z + 1
+says-next : (b : ℕ) (s : List ℕ) (v z i w k : ℕ) (g : Option Gathered) → is_digit b ≡ true → v * 10 ^ z * 10 + (b - 48) ≡ w * 10 ^ k → k ≤ z + 1
     → Says s w k (i + 1) g → Says (b ∷ s) v z i g
 unfolding Says
-says-next b s v z i w k (Point v' z' i') d e l h = (gathered_next b s v z i w k v' z' i' d e l h.0, rw (lead-more b s d, add-one) (rw add-one at h.1))
-says-next b s v z i w k (End v' z' i') d e l h = (gathered_next b s v z i w k v' z' i' d e l h.0, rw (lead-more b s d) h.1)
-says-next b s v z i w k Bad d e l h = rw (next-value b s (v * 10 ^ z) d, e, lead-more b s d) h
+says-next b s v z i w k (Some g) d e l h = (gathered_next b s v z i w k g.v g.zeros g.stop d e l h.0, stops-next b s d g.pointed h.1)
+says-next b s v z i w k None d e l h = rw (next-value b s (v * 10 ^ z) d, e, lead-more b s d) h
 
 -- one digit too many
 grown : (v z : ℕ) → full ≤ v → full ≤ v * 10 ^ z
 grown v z h = le_trans h (le_trans (omega (arith, mul-one v)) (mul-le-mul_left v (one-le-pow z 10 (lit< tt))))
 
-says-over : (b : ℕ) (s : List ℕ) (v z i : ℕ) → is_digit b ≡ true → full ≤ v → (b ≡ 48 → ⊥) → Says (b ∷ s) v z i Bad
+says-over : (b : ℕ) (s : List ℕ) (v z i : ℕ) → is_digit b ≡ true → full ≤ v → (b ≡ 48 → ⊥) → Says (b ∷ s) v z i None
 unfolding Says
 says-over b s v z i d h q =
     let n = v * 10 ^ z * 10 + (b - 48) in
@@ -179,7 +187,7 @@ says-over b s v z i d h q =
 
 -- no digit
 says-stop : (b : ℕ) (s : List ℕ) (v z i : ℕ) → is_digit b ≡ false → Packed v z → Says (b ∷ s) v z i (stop_of b v z i)
-unfolding Says
+unfolding Says Stops
 says-stop b s v z i d k =
     ⊎_elim (λ (e : b ≡ 46). rw (← (stop-point b v z i e)) (g, rw (lead-none b s d, e)))
     (λ (p : b ≡ 46 → ⊥).
@@ -197,7 +205,7 @@ says-stop b s v z i d k =
     g = gathered_none (b ∷ s) v z i (lead-none b s d) k
 
 pub gather-says : (s : List ℕ) (v z i : ℕ) → Packed v z → Says s v z i (gather_of v z i s)
-gather-says [] v z i k = unfold gather_of Says lead mantissa_part up_to in (gathered_none [] v z i refl k, refl)
+gather-says [] v z i k = unfold gather_of Says Stops lead mantissa_part up_to in (gathered_none [] v z i refl k, refl)
 gather-says (b ∷ s) v z i k =
     cases v b
     (λ d h. rw (gather-add v z i b s d h)

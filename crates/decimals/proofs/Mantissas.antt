@@ -1,4 +1,5 @@
 -- Laws of the mantissa: what its digits, gathered up to the point and behind it, say of it. Assumes nothing.
+use Rattle.std.proofs.Common.{Option, Some, None}
 use Prim.Native.Nat.{ℕ, ◌+◌, ◌*◌, ◌-◌, ◌^◌, ◌≤◌, ◌<◌}
 use mathlib.Core.List.{List, [], ◌∷◌, ◌++◌, append-nil}
 use mathlib.Core.Bool.{Bool, true, false, cond, ◌&&◌, and-false}
@@ -12,17 +13,23 @@ use lib.Dec.{ltb}
 use Rattle.numeral.specs.Digits.{all_digits, value_from, value_of}
 use Rattle.numeral.proofs.Digits.{digit_low, all_digits-append, value_from-append}
 use Rattle.decimals.specs.Decimal.{fraction, digits, is_mantissa, mantissa_part, strip_from}
-use Rattle.decimals.specs.Inside.{gather_of, large, bare_of, mantissa_of, Fit}
-use Rattle.decimals.specs.declared.Gathered.TheVariants.{Point, End, Bad as GatheredBad}
+use Rattle.decimals.specs.Inside.{gather_of, at_point, at_end, worth_of, large, bare_of, mantissa_of, Fit}
+use Rattle.decimals.specs.declared.Gathered.{Gathered}
 use Rattle.decimals.specs.declared.Mantissa.{Mantissa}
-use Rattle.decimals.specs.declared.Mantissa.TheVariants.{Value as MantissaValue, Bad as MantissaBad}
 use Rattle.text.proofs.Cases.{eq-or-ne}
 use Rattle.decimals.proofs.Parts.{part-le, fraction-none, digits-none, fraction-point, digits-point, part-next, digits-front, fraction-front, lead, rest, lead-digits, part-front}
 use Rattle.decimals.proofs.Zeros.{strip-le, strip-zeros, Large}
-use Rattle.decimals.proofs.Gathering.{gather-says, gather-strip, Packed, packed_start, GatheredAs, Lost, lost-front, lost-here, Says}
+use Rattle.decimals.proofs.Gathering.{gather-says, gather-strip, Packed, packed_start, GatheredAs, Lost, lost-front, lost-here, Stops, Says}
+
+-- ---- What was gathered, by where it stops
+pub as_point : (g : Gathered) → g.pointed ≡ true → Some g ≡ at_point g.v g.zeros g.stop
+as_point g e = ap (λ (b : Bool). Some (record { v = g.v; zeros = g.zeros; stop = g.stop; pointed = b })) e
+
+pub as_end : (g : Gathered) → g.pointed ≡ false → Some g ≡ at_end g.v g.zeros g.stop
+as_end g e = ap (λ (b : Bool). Some (record { v = g.v; zeros = g.zeros; stop = g.stop; pointed = b })) e
 
 -- ---- The outcomes
-mantissa-lost : (m : List ℕ) → Lost (digits m) 0 → MantissaBad ≡ mantissa_of m
+mantissa-lost : (m : List ℕ) → Lost (digits m) 0 → None ≡ mantissa_of m
 unfolding mantissa_of is_mantissa Lost Large
 mantissa-lost m l =
     ⊎_elim (λ (a : all_digits (digits m) ≡ false). rw (a, and-false))
@@ -47,9 +54,9 @@ bare-is m n v z f e a =
     (eq-or-ne n 0)
 
 -- ---- Digits that end at an e or the end
-module _ (s : List ℕ) (v z i w k e : ℕ) (p : Packed v z) (q : gather_of v z i s ≡ End w k e) where
+module _ (s : List ℕ) (v z i w k e : ℕ) (p : Packed v z) (q : gather_of v z i s ≡ at_end w k e) where
   end-says : GatheredAs s v z i w k e × (mantissa_part (rest s) ≡ [])
-  unfolding Says
+  unfolding Says Stops
   end-says = rw q at (gather-says s v z i p)
 
   end-part : mantissa_part s ≡ lead s
@@ -62,7 +69,7 @@ pub record Ended (s : List ℕ) (i w k e : ℕ) : Type 0 where
   pub least : i ≤ e
   pub inside : e ≤ length s
 
-pub ended : (s : List ℕ) (v z i w k e : ℕ) → Packed v z → z ≤ i → i ≤ length s → gather_of v z i (drop i s) ≡ End w k e → Ended s i w k e
+pub ended : (s : List ℕ) (v z i w k e : ℕ) → Packed v z → z ≤ i → i ≤ length s → gather_of v z i (drop i s) ≡ at_end w k e → Ended s i w k e
 ended s v z i w k e p a b q =
     let t = drop i s in
     let h = (end-says t v z i w k e p q).0 in
@@ -76,7 +83,7 @@ ended s v z i w k e p a b q =
       inside = omega (arith, part-le t, length-drop i s);
     }
 
-whole_is : (s : List ℕ) (v z e : ℕ) → gather_of 0 0 0 s ≡ End v z e → MantissaAs (mantissa_part s) e v z 0 e
+whole_is : (s : List ℕ) (v z e : ℕ) → gather_of 0 0 0 s ≡ at_end v z e → MantissaAs (mantissa_part s) e v z 0 e
 whole_is s v z e q =
     let h = (end-says s 0 0 0 v z e packed_start q).0 in
     let m : mantissa_part s ≡ lead s = end-part s 0 0 0 v z e packed_start q in
@@ -107,8 +114,8 @@ point-part s t e =
     part-front s
     ∙ ap (λ (l : List ℕ). lead s ++ l) (ap mantissa_part e ∙ part-next 46 t (λ r. omega arith) (λ r. omega arith))
 
-pub pointed : (s : List ℕ) (v z p : ℕ) → gather_of 0 0 0 s ≡ Point v z p → Pointed s v z p
-unfolding Says
+pub pointed : (s : List ℕ) (v z p : ℕ) → gather_of 0 0 0 s ≡ at_point v z p → Pointed s v z p
+unfolding Says Stops
 pointed s v z p q =
     let h : GatheredAs s 0 0 0 v z p × (rest s ≡ 46 ∷ drop (length (lead s) + 1) s) = rw q at (gather-says s 0 0 0 packed_start) in
     let e : p ≡ length (lead s) = omega (arith, h.0.place) in
@@ -126,7 +133,7 @@ point-digits : (s : List ℕ) (v z p : ℕ) → Pointed s v z p → digits (mant
 point-digits s v z p a =
     ap digits a.part ∙ digits-front (lead s) _ (lead-digits s) ∙ ap (λ (l : List ℕ). lead s ++ l) (digits-point _)
 
-behind-is : (s : List ℕ) (v z p w k e : ℕ) → Pointed s v z p → gather_of v z (p + 1) (drop (p + 1) s) ≡ End w k e
+behind-is : (s : List ℕ) (v z p w k e : ℕ) → Pointed s v z p → gather_of v z (p + 1) (drop (p + 1) s) ≡ at_end w k e
     → MantissaAs (mantissa_part s) (e - 1) w k (e - 1 - p) e
 behind-is s v z p w k e a q =
     let t = drop (p + 1) s in
@@ -146,8 +153,8 @@ behind-is s v z p w k e a q =
     }
 
 -- ---- What is no mantissa
-pub first-lost : (s : List ℕ) → gather_of 0 0 0 s ≡ GatheredBad → MantissaBad ≡ mantissa_of (mantissa_part s)
-unfolding Says
+pub first-lost : (s : List ℕ) → gather_of 0 0 0 s ≡ None → None ≡ mantissa_of (mantissa_part s)
+unfolding Says Stops
 first-lost s q =
     let n = value_of (lead s) in
     let h : Lost (mantissa_part (rest s)) n × Lost (digits (mantissa_part (rest s))) n = rw q at (gather-says s 0 0 0 packed_start) in
@@ -156,21 +163,21 @@ first-lost s q =
 
 -- behind the point, a byte that is no digit or too many digits
 behind-lost : (s : List ℕ) (v z p : ℕ) → Pointed s v z p → Lost (mantissa_part (rest (drop (p + 1) s))) (value_from (v * 10 ^ z) (lead (drop (p + 1) s)))
-    → MantissaBad ≡ mantissa_of (mantissa_part s)
+    → None ≡ mantissa_of (mantissa_part s)
 behind-lost s v z p a l =
     let t = drop (p + 1) s in
     mantissa-lost (mantissa_part s)
     (rw (point-digits s v z p a, part-front t)
     (lost-front (lead s) _ 0 _ (lead-digits s) a.value (lost-front (lead t) _ (v * 10 ^ z) _ (lead-digits t) refl l)))
 
-pub second-lost : (s : List ℕ) (v z p : ℕ) → Pointed s v z p → gather_of v z (p + 1) (drop (p + 1) s) ≡ GatheredBad
-    → MantissaBad ≡ mantissa_of (mantissa_part s)
-unfolding Says
+pub second-lost : (s : List ℕ) (v z p : ℕ) → Pointed s v z p → gather_of v z (p + 1) (drop (p + 1) s) ≡ None
+    → None ≡ mantissa_of (mantissa_part s)
+unfolding Says Stops
 second-lost s v z p a q = behind-lost s v z p a (rw q at (gather-says (drop (p + 1) s) v z (p + 1) a.packed)).0
 
-pub second-point : (s : List ℕ) (v z p w k e : ℕ) → Pointed s v z p → gather_of v z (p + 1) (drop (p + 1) s) ≡ Point w k e
-    → MantissaBad ≡ mantissa_of (mantissa_part s)
-unfolding Says
+pub second-point : (s : List ℕ) (v z p w k e : ℕ) → Pointed s v z p → gather_of v z (p + 1) (drop (p + 1) s) ≡ at_point w k e
+    → None ≡ mantissa_of (mantissa_part s)
+unfolding Says Stops
 second-point s v z p w k e a q =
     let t = drop (p + 1) s in
     let h = (rw q at (gather-says t v z (p + 1) a.packed)).1 in
@@ -179,7 +186,7 @@ second-point s v z p w k e a q =
     behind-lost s v z p a (rw m (lost-here 46 _ _ (digit_low 46 (omega arith))))
 
 -- ---- Counts that fit
-pub fit-bad : Fit MantissaBad
+pub fit-bad : Fit None
 unfolding Fit
 fit-bad = tt
 
@@ -190,32 +197,35 @@ fit-bare n v z f e a b c =
     (λ (o : n ≡ 0 → ⊥). rw (ne_eqb n 0 o) (omega (arith, strip-zeros v z), c))
     (eq-or-ne n 0)
 
-pub fit-counts : (m : Mantissa) (v z f e : ℕ) → m ≡ MantissaValue v z f e → Fit m → (z < 2 ^ 62) × (f ≤ 32)
+pub fit-counts : (m : Option Mantissa) (v z f e : ℕ) → m ≡ worth_of v z f e → Fit m → (z < 2 ^ 62) × (f ≤ 32)
 unfolding Fit
 fit-counts m v z f e p h = rw p at h
 
 -- ---- The answers
-pub whole-answer : (s : List ℕ) (v z e : ℕ) (r : Mantissa) → length s ≤ 32 → gather_of 0 0 0 s ≡ End v z e → r ≡ bare_of e v z 0 e
+pub whole-answer : (s : List ℕ) (v z e : ℕ) (r : Option Mantissa) → length s ≤ 32 → gather_of 0 0 0 s ≡ at_end v z e → r ≡ bare_of e v z 0 e
     → (r ≡ mantissa_of (mantissa_part s)) × Fit r
 whole-answer s v z e r l q b =
     let h = ended s 0 0 0 v z e packed_start (omega arith) (omega arith) q in
     (b ∙ bare-is (mantissa_part s) e v z 0 e (whole_is s v z e q), rw b (fit-bare e v z 0 e h.small (omega (arith, h.zeros, h.inside)) (omega arith)))
 
-pub behind-answer : (s : List ℕ) (v z p w k e : ℕ) (r : Mantissa) → length s ≤ 32 → Pointed s v z p
-    → gather_of v z (p + 1) (drop (p + 1) s) ≡ End w k e → r ≡ bare_of (e - 1) w k (e - 1 - p) e
+pub behind-answer : (s : List ℕ) (v z p w k e : ℕ) (r : Option Mantissa) → length s ≤ 32 → Pointed s v z p
+    → gather_of v z (p + 1) (drop (p + 1) s) ≡ at_end w k e → r ≡ bare_of (e - 1) w k (e - 1 - p) e
     → (r ≡ mantissa_of (mantissa_part s)) × Fit r
 behind-answer s v z p w k e r l a q b =
     let h = ended s v z (p + 1) w k e a.packed (omega (arith, a.zeros)) (omega (arith, a.inside)) q in
     (b ∙ bare-is (mantissa_part s) (e - 1) w k (e - 1 - p) e (behind-is s v z p w k e a q), rw b (fit-bare (e - 1) w k (e - 1 - p) e h.small (omega (arith, h.zeros, h.inside)) (omega (arith, h.inside))))
 
 -- ---- At most 18 digits, and the length
-cond-inv : (a b : Bool) (v z f e w y g l : ℕ) → cond (a && b) (MantissaValue v z f e) MantissaBad ≡ MantissaValue w y g l
+some_inv : (m n : Mantissa) → Some m ≡ Some n → m ≡ n
+some_inv m n e = cc
+
+cond-inv : (a b : Bool) (v z f e w y g l : ℕ) → cond (a && b) (worth_of v z f e) None ≡ worth_of w y g l
     → (b ≡ true) × (v ≡ w) × (e ≡ l)
-cond-inv true true v z f e w y g l q = (refl, cc, cc)
+cond-inv true true v z f e w y g l q = let p = some_inv _ _ q in (refl, ap (λ (m : Mantissa). m.v) p, ap (λ (m : Mantissa). m.stop) p)
 cond-inv true false v z f e w y g l q = absurd (let q : ◌≡◌ {A = ℕ} 0 1 = cc in omega arith)
 cond-inv false b v z f e w y g l q = absurd (let q : ◌≡◌ {A = ℕ} 0 1 = cc in omega arith)
 
-pub mantissa-inv : (m : List ℕ) (v z f e : ℕ) → mantissa_of m ≡ MantissaValue v z f e → (v < large) × (length m ≡ e)
+pub mantissa-inv : (m : List ℕ) (v z f e : ℕ) → mantissa_of m ≡ worth_of v z f e → (v < large) × (length m ≡ e)
 unfolding mantissa_of
 mantissa-inv m v z f e q =
     let t = strip_from (value_of (digits m)) 0 in

@@ -15,19 +15,31 @@ pub struct Stripped {
     pub zeros: u64,
 }
 
+// The most bytes of a decimal field.
+const LONGEST: usize = 32;
+
+// From here on a number has its 18 digits, and only zeros may follow.
+const FULL: u64 = 100_000_000_000_000_000;
+
+// What an exponent of 0 counts as.
+const MIDDLE: u64 = 200;
+
 // Digits gathered into a number of at most 18 digits, a count of zeros behind it, and where they stop: at a point, or at an e or the end.
 #[derive(Clone, Copy)]
-enum Gathered {
-    Point(u64, u64, usize),
-    End(u64, u64, usize),
-    Bad,
+struct Gathered {
+    v: u64,
+    zeros: u64,
+    stop: usize,
+    pointed: bool,
 }
 
 // A mantissa without its trailing zeros, how many those were, how many digits stand behind the point, and where it ends.
 #[derive(Clone, Copy)]
-enum Mantissa {
-    Value(u64, u64, u64, usize),
-    Bad,
+struct Mantissa {
+    v: u64,
+    zeros: u64,
+    behind: u64,
+    stop: usize,
 }
 
 // A sign in front: whether it is a minus, and how long it is, 1 or 0.
@@ -41,28 +53,23 @@ struct Sign {
 fn sign_of(s: &[u8]) -> Sign
     ensures { result ≡ sign_of s.now }
 {
-    if s.len() == 0 {
-        return Sign {
-            minus: false,
-            len: 0,
-        };
-    }
-    let b = s[0];
-    if b == 45 {
-        return Sign {
+    match s.first() {
+        Some(b'-') => Sign {
             minus: true,
             len: 1,
-        };
-    }
-    if b == 43 {
-        return Sign {
+        },
+        Some(b'+') => Sign {
             minus: false,
             len: 1,
-        };
-    }
-    Sign {
-        minus: false,
-        len: 0,
+        },
+        Some(_) => Sign {
+            minus: false,
+            len: 0,
+        },
+        None => Sign {
+            minus: false,
+            len: 0,
+        },
     }
 }
 
@@ -71,14 +78,15 @@ fn strip_from(v: u64, z: u64) -> Stripped
     requires { v + z < 2 ^ 64 }
     ensures { result ≡ strip_from v z }
 {
+    if v == 0 {
+        return Stripped { v, zeros: z };
+    }
     let mut w = v;
     let mut k = z;
-    if w == 0 {
-        return Stripped { v: 0, zeros: z };
-    }
+    // The number itself says when its zeros end.
     while w % 10 == 0 {
-        w = w / 10;
-        k = k + 1;
+        w /= 10;
+        k += 1;
     }
     Stripped { v: w, zeros: k }
 }
@@ -90,106 +98,104 @@ pub fn strip(v: u64) -> Stripped
     strip_from(v, 0)
 }
 
-// What was gathered, v with z zeros, where the digits stop at the byte b, which stands at i.
-fn stop_at(b: u8, v: u64, z: u64, i: usize) -> Gathered
-    ensures { result ≡ stop_of b v z i }
+// What was gathered, v with some zeros, where the digits stop at the byte b, which stands at `stop`.
+fn stop_at(b: u8, v: u64, zeros: u64, stop: usize) -> Option<Gathered>
+    ensures { result ≡ stop_of b v zeros stop }
 {
-    if b == 46 {
-        return Gathered::Point(v, z, i);
+    match b {
+        b'.' => Some(Gathered {
+            v,
+            zeros,
+            stop,
+            pointed: true,
+        }),
+        b'e' | b'E' => Some(Gathered {
+            v,
+            zeros,
+            stop,
+            pointed: false,
+        }),
+        _ => None,
     }
-    if b == 101 {
-        return Gathered::End(v, z, i);
-    }
-    if b == 69 {
-        return Gathered::End(v, z, i);
-    }
-    Gathered::Bad
 }
 
 // Gathers the digits of s from `at` on behind v with z zeros.
-fn gather(v: u64, z: u64, s: &[u8], at: usize) -> Gathered
+fn gather(v: u64, z: u64, s: &[u8], at: usize) -> Option<Gathered>
     requires { (v < large) × (z ≤ at) × (at ≤ length s.now) }
     ensures { result ≡ gather_of v z at (drop at s.now) }
 {
     let mut w = v;
     let mut k = z;
-    let mut i = at;
-    while i < s.len() {
+    for i in at..s.len() {
         let b = s[i];
-        if b < 48 {
+        if !b.is_ascii_digit() {
             return stop_at(b, w, k, i);
         }
-        if 57 < b {
-            return stop_at(b, w, k, i);
-        }
-        if w < 100000000000000000 {
-            w = w * 10 + (b - 48) as u64;
+        if w < FULL {
+            w = w * 10 + u64::from(b - b'0');
+        } else if b == b'0' {
+            k += 1;
         } else {
-            if b != 48 {
-                return Gathered::Bad;
-            }
-            k = k + 1;
+            return None;
         }
-        i += 1;
     }
-    Gathered::End(w, k, i)
+    Some(Gathered {
+        v: w,
+        zeros: k,
+        stop: s.len(),
+        pointed: false,
+    })
 }
 
-// The mantissa of n digits, worth v with z zeros, that has f digits behind the point and ends at e.
-fn bare(n: usize, v: u64, z: u64, f: usize, e: usize) -> Mantissa
+// The mantissa of n digits, worth v with z zeros, that has f digits behind the point and ends at `stop`.
+fn bare(n: usize, v: u64, z: u64, f: usize, stop: usize) -> Option<Mantissa>
     requires { v + z < 2 ^ 64 }
-    ensures { result ≡ bare_of n v z f e }
+    ensures { result ≡ bare_of n v z f stop }
 {
     if n == 0 {
-        return Mantissa::Bad;
+        return None;
     }
-    let t = strip_from(v, z);
-    Mantissa::Value(t.v, t.zeros, f as u64, e)
+    let Stripped { v, zeros } = strip_from(v, z);
+    Some(Mantissa {
+        v,
+        zeros,
+        behind: f as u64,
+        stop,
+    })
 }
 
 // The mantissa in front of an e or the end: digits with at most one point.
-fn mantissa_in(s: &[u8]) -> Mantissa
+fn mantissa_in(s: &[u8]) -> Option<Mantissa>
     requires { length s.now ≤ 32 }
     ensures { (result ≡ mantissa_of (mantissa_part s.now)) × Fit result }
 {
-    match gather(0, 0, s, 0) {
-        Gathered::End(v, z, e) => bare(e, v, z, 0, e),
-        Gathered::Point(v, z, p) => match gather(v, z, s, p + 1) {
-            Gathered::End(w, k, e) => {
-                let n = e - 1;
-                bare(n, w, k, n - p, e)
-            }
-            Gathered::Point(_, _, _) => Mantissa::Bad,
-            Gathered::Bad => Mantissa::Bad,
-        },
-        Gathered::Bad => Mantissa::Bad,
+    let front = gather(0, 0, s, 0)?;
+    if !front.pointed {
+        return bare(front.stop, front.v, front.zeros, 0, front.stop);
     }
+    let whole = gather(front.v, front.zeros, s, front.stop + 1)?;
+    if whole.pointed {
+        return None;
+    }
+    let n = whole.stop - 1;
+    bare(n, whole.v, whole.zeros, n - front.stop, whole.stop)
 }
 
 // The exponent, counted from 200 on: nothing, or e, a sign or none, and one or two digits.
 fn power_in(s: &[u8]) -> Option<u64>
     ensures { result ≡ power_of s.now }
 {
-    if s.len() == 0 {
-        return Some(200);
+    if s.is_empty() {
+        return Some(MIDDLE);
     }
     let t = &s[1..];
-    let g = sign_of(t);
-    let negative = g.minus;
-    let a = g.len;
-    let d = &t[a..];
+    let sign = sign_of(t);
+    let d = &t[sign.len..];
     if 2 < d.len() {
         return None;
     }
-    match numeral::read_integer(d, 0, 99) {
-        Some(n) => {
-            if negative {
-                return Some(200 - n);
-            }
-            Some(200 + n)
-        }
-        None => None,
-    }
+    let n = numeral::read_integer(d, 0, 99)?;
+    Some(if sign.minus { MIDDLE - n } else { MIDDLE + n })
 }
 
 // A number counted from 200 on, as it is: 200 is 0, 199 is -1.
@@ -197,10 +203,7 @@ fn from_200(s: u64) -> i64
     requires { s ≤ 299 }
     ensures { result ≡ sub_ℕ s 200 }
 {
-    if s < 200 {
-        return signed::with_sign(true, 200 - s);
-    }
-    signed::with_sign(false, s - 200)
+    s as i64 - 200
 }
 
 // A sign, a mantissa and an exponent counted from 200 on, as a decimal.
@@ -214,17 +217,12 @@ fn pair(negative: bool, v: u64, s: u64) -> Option<Decimal>
             exponent: 0,
         });
     }
-    if s < 101 {
+    if s < 101 || 299 < s {
         return None;
     }
-    if 299 < s {
-        return None;
-    }
-    let m = signed::with_sign(negative, v);
-    let e = from_200(s);
     Some(Decimal {
-        mantissa: m,
-        exponent: e,
+        mantissa: signed::with_sign(negative, v),
+        exponent: from_200(s),
     })
 }
 
@@ -234,7 +232,7 @@ pub fn pointed(negative: bool, v: u64, f: usize) -> Option<Decimal>
     ensures { result ≡ pointed_of negative v f }
 {
     let t = strip_from(v, 0);
-    pair(negative, t.v, 200 + t.zeros - f as u64)
+    pair(negative, t.v, MIDDLE + t.zeros - f as u64)
 }
 
 // What stands behind the sign.
@@ -242,37 +240,25 @@ fn body(negative: bool, s: &[u8]) -> Option<Decimal>
     requires { length s.now ≤ 32 }
     ensures { result ≡ body_of negative s.now }
 {
-    match mantissa_in(s) {
-        Mantissa::Value(v, z, f, e) => match power_in(&s[e..]) {
-            Some(n) => pair(negative, v, n + z - f),
-            None => None,
-        },
-        Mantissa::Bad => None,
-    }
+    let m = mantissa_in(s)?;
+    let n = power_in(&s[m.stop..])?;
+    pair(negative, m.v, n + m.zeros - m.behind)
 }
 
 // A decimal field of at most 32 bytes.
 pub fn read_decimal(field: &[u8]) -> Option<Decimal>
     ensures { result ≡ decimal_of field.now }
 {
-    if 32 < field.len() {
+    if LONGEST < field.len() {
         return None;
     }
-    let g = sign_of(field);
-    let a = g.len;
-    body(g.minus, &field[a..])
+    let sign = sign_of(field);
+    body(sign.minus, &field[sign.len..])
 }
 
 // Are two decimals the same? Of kept pairs, this is equality of their values.
 pub fn same_decimal(a: Decimal, b: Decimal) -> bool
     ensures { result ≡ same_decimal a b }
 {
-    let m = a.mantissa;
-    let n = b.mantissa;
-    if !signed::same(m, n) {
-        return false;
-    }
-    let d = a.exponent;
-    let e = b.exponent;
-    signed::same(d, e)
+    a == b
 }

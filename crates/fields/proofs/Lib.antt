@@ -2,5 +2,6 @@
 pub mod Places
 pub mod Cut
 pub mod Fields
+pub mod Walking
 pub mod Visible
 pub mod Examples

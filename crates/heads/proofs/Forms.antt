@@ -26,34 +26,6 @@ module _ (edition : Edition) (increment : Bool) (label : ℕ) (field : List ℕ)
   unfolding label_value increment_value set_value
   value-unknown e = rw e (either increment)
 
-  pub value-counter : 1 ≤ label → label ≤ 9 → counter_of largest_id field ≡ label_value edition increment label field
-  unfolding label_value increment_value set_value
-  value-counter h k = rw (le-leb 1 label h, le-leb label 9 k) (either increment)
-
-  module _ (h : 10 ≤ label) where
-    pub value-increment : increment ≡ true → None ≡ label_value edition increment label field
-    unfolding label_value increment_value
-    value-increment e = rw (e, le-leb 1 label (omega arith), lt-leb label 9 h)
-
-    module _ (e : increment ≡ false) where
-      pub value-flag : label ≤ 12 → signed_as false (integer_of 0 1 field) ≡ label_value edition increment label field
-      unfolding label_value set_value
-      value-flag k = rw (e, le-leb 1 label (omega arith), lt-leb label 9 h, le-leb 10 label h, le-leb label 12 k)
-
-      pub value-beyond : 14 ≤ label → None ≡ label_value edition increment label field
-      unfolding label_value set_value
-      value-beyond k =
-          rw (e, le-leb 1 label (omega arith), lt-leb label 9 h, le-leb 10 label h, lt-leb label 12 (omega arith), ne_eqb label 13 (λ (p : label ≡ 13). omega arith))
-
-      module _ (l : label ≡ 13) where
-        pub value-early : edition ≡ V13 → None ≡ label_value edition increment label field
-        unfolding label_value set_value is_v14
-        value-early v = rw (e, l, v)
-
-        pub value-once : edition ≡ V14 → signed_as false (integer_of 0 largest_id field) ≡ label_value edition increment label field
-        unfolding label_value set_value is_v14
-        value-once v = rw (e, l, v)
-
 -- ---- a label: n is what the ID was read as, v what the value was, label the name's place
 module _ (edition : Edition) (increment : Bool) (id value name : List ℕ) (n : (Option ℕ)) (p : n ≡ integer_of 1 largest_id id) where
   pub label-no-id : n ≡ None → None ≡ label_fields edition increment id value name

@@ -31,34 +31,19 @@ pub struct Extension {
 fn flag_value(field: &[u8], most: u64) -> Option<i64>
     ensures { result ≡ signed_as false (integer_of 0 most field.now) }
 {
-    match numeral::read_integer(field, 0, most) {
-        Some(n) => Some(signed::with_sign(false, n)),
-        None => None,
-    }
+    let n = numeral::read_integer(field, 0, most)?;
+    Some(n as i64)
 }
 
 // The value of a label, by its number in the list and whether it is set or incremented.
 fn label_value(edition: Edition, increment: bool, label: usize, field: &[u8]) -> Option<i64>
     ensures { result ≡ label_value edition increment label field.now }
 {
-    if label == 0 {
-        return None;
-    }
-    if label < 10 {
-        return numeral::read_counter(field, LARGEST_ID);
-    }
-    if increment {
-        return None;
-    }
-    if label < 13 {
-        return flag_value(field, 1);
-    }
-    if 13 < label {
-        return None;
-    }
-    match edition {
-        Edition::V13 => None,
-        Edition::V14 => flag_value(field, LARGEST_ID),
+    match label {
+        1..=9 => numeral::read_counter(field, LARGEST_ID),
+        10..=12 if !increment => flag_value(field, 1),
+        13 if !increment && edition == Edition::V14 => flag_value(field, LARGEST_ID),
+        _ => None,
     }
 }
 
@@ -108,45 +93,17 @@ pub fn read_label(edition: Edition, increment: bool, line: &[u8]) -> Option<Labe
 fn is_name_byte(b: u8) -> bool
     ensures { result ≡ is_name_byte b }
 {
-    if b < 48 {
-        return false;
-    }
-    if b < 58 {
-        return true;
-    }
-    if b < 65 {
-        return false;
-    }
-    if b < 91 {
-        return true;
-    }
-    if b == 95 {
-        return true;
-    }
-    if b < 97 {
-        return false;
-    }
-    b < 123
+    b.is_ascii_alphanumeric() || b == b'_'
 }
+
+// The most bytes of a name.
+const LONGEST_NAME: usize = 32;
 
 // Is this a name: 1 to 32 letters, digits and underscores?
 fn is_name(name: &[u8]) -> bool
     ensures { result ≡ is_name name.now }
 {
-    if name.len() == 0 {
-        return false;
-    }
-    if 32 < name.len() {
-        return false;
-    }
-    let mut i = 0;
-    while i < name.len() {
-        if !is_name_byte(name[i]) {
-            return false;
-        }
-        i += 1;
-    }
-    true
+    !name.is_empty() && name.len() <= LONGEST_NAME && name.iter().all(|b| is_name_byte(*b))
 }
 
 // The code of an extension's name: 1 TRIGGERS, 2 LABELSET, 3 LABELINC, 0 any other.

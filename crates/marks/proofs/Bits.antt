@@ -1,6 +1,6 @@
 -- Bits of bytes: how the code finds one, and that one that is put in leaves the others as they are. Assumes nothing.
 use Prim.Native.Nat.{ℕ, zero, suc, ◌+◌, ◌*◌, ◌/◌, ◌%◌, ◌^◌, ◌≤◌, ◌<◌}
-use mathlib.Core.Bool.{true, false}
+use mathlib.Core.Bool.{true, false, not}
 use mathlib.Core.List.{List}
 use mathlib.Core.Logic.{◌⊎◌, inl, inr, ⊎_elim}
 use mathlib.Core.Path.{◌≡◌, refl, sym, ap, ◌∙◌}
@@ -8,6 +8,11 @@ use native.Mathlib.Nat.{pow-suc, mul_comm, one-le-pow, div-div-eq-div-mul}
 use native.Mathlib.Omega.{arith}
 use borrow.Author.Tests.{eq-eqb, ne_eqb}
 use lib.Dec.{eqb, lit<}
+use lib.Bits.{bit_and}
+use Rattle.std.specs.Int.Bits.{bit_or, or_add_and}
+use Rattle.std.proofs.lemmas.List.{set-get_or}
+use Rattle.std.proofs.lemmas.Nat.{or_disjoint}
+use Rattle.std.proofs.lemmas.Nat.Bits.{and_pow}
 use lib.ListN.{length, get_or, set, get_or-eq_default}
 use lib.Seq.{set_out, get_or-set_same, get_or-set_other}
 use Rattle.text.proofs.Cases.{eq-or-ne, lt-or-ge}
@@ -22,16 +27,6 @@ bit_is (suc i) b =
     rw (e, ← div-div-eq-div-mul b 2 (2 ^ i)) (bit_is i (b / 2))
 
 -- ---- a bit that is put in
-pub bit-fits : (n i b : ℕ) → i < n → b < 2 ^ n → bit_of b i ≡ 0 → b + 2 ^ i < 2 ^ n
-unfolding bit_of
-bit-fits zero i b p q e = absurd (omega arith)
-bit-fits (suc n) zero b p q e = let t = pow-suc 2 n in omega arith
-bit-fits (suc n) (suc i) b p q e =
-    let t = pow-suc 2 n in
-    let s = pow-suc 2 i in
-    let h = bit-fits n i (b / 2) (omega arith) (omega arith) e in
-    omega arith
-
 bit-apart : (i k b : ℕ) → (k ≡ i → ⊥) → bit_of b i ≡ 0 → bit_of (b + 2 ^ i) k ≡ bit_of b k
 unfolding bit_of
 bit-apart zero zero b n e = absurd (n refl)
@@ -99,13 +94,27 @@ marked-out marks j h =
     let e : eqb (bit_of (byte_of marks j) (j % 8)) 1 ≡ false = rw (z, zero_bit (j % 8)) in
     (sym e, rw e (sym (set_out marks (j / 8) (byte_of marks j + 2 ^ (j % 8)) h)))
 
--- ---- the worth of a bit, as the code has it
-pub worth-some : (j worth : ℕ) → worth ≡ 2 ^ (j % 8) → 0 < worth
-worth-some j worth w = rw w (one-le-pow (j % 8) 2 (lit< tt))
+-- ---- the bit of a worth, as the code finds it and puts it in
+two : (b i : ℕ) → (bit_of b i ≡ 0) ⊎ (bit_of b i ≡ 1)
+two b i = ⊎_elim (λ e. inr e) (λ n. inl (bit-none i b n)) (eq-or-ne (bit_of b i) 1)
+
+and_is : (b i : ℕ) → bit_and b (2 ^ i) ≡ bit_of b i * 2 ^ i
+and_is b i = and_pow b i ∙ ap (λ (x : ℕ). x * 2 ^ i) (bit_is i b)
+
+pub bit-test : (b i worth : ℕ) → worth ≡ 2 ^ i → not (eqb (bit_and b worth) 0) ≡ eqb (bit_of b i) 1
+bit-test b i worth w = rw (w, and_is) (go (bit_of b i) (two b i))
+  where
+    go : (x : ℕ) → (x ≡ 0) ⊎ (x ≡ 1) → not (eqb (x * 2 ^ i) 0) ≡ eqb x 1
+    go x (inl e) = rw e (rw (eq-eqb (0 * 2 ^ i) 0 (omega arith)))
+    go x (inr e) = let p = one-le-pow i 2 (lit< tt) in rw e (rw (ne_eqb (1 * 2 ^ i) 0 (λ q. omega arith)))
 
 module _ (marks : List ℕ) (j worth : ℕ) (w : worth ≡ 2 ^ (j % 8)) where
-  pub worth-bit : byte_of marks j / worth % 2 ≡ bit_of (byte_of marks j) (j % 8)
-  worth-bit = rw w (bit_is (j % 8) (byte_of marks j))
+  pub worth-put : set marks (j / 8) (bit_or (byte_of marks j) worth) ≡ marked marks j
+  worth-put = rw w (go (two (byte_of marks j) (j % 8)))
+    where
+      b : ℕ
+      b = byte_of marks j
 
-  pub worth-fits : byte_of marks j < 256 → byte_of marks j / worth % 2 ≡ 0 → byte_of marks j + worth < 256
-  worth-fits h e = rw w (bit-fits 8 (j % 8) (byte_of marks j) (omega arith) h (sym worth-bit ∙ e))
+      go : (bit_of b (j % 8) ≡ 0) ⊎ (bit_of b (j % 8) ≡ 1) → set marks (j / 8) (bit_or b (2 ^ (j % 8))) ≡ marked marks j
+      go (inl e) = rw (or_disjoint b (2 ^ (j % 8)) (and_is b (j % 8) ∙ rw e (omega arith))) (marked-now marks j (λ q. omega arith))
+      go (inr e) = let f = rw e at (and_is b (j % 8)) in let s : bit_or b (2 ^ (j % 8)) ≡ b = omega (arith, or_add_and b (2 ^ (j % 8)), f) in rw s (set-get_or marks (j / 8) 0 ∙ marked-yes marks j e)

@@ -8,16 +8,7 @@ ghost use Rattle.marks.specs.Marks.{is_marked, marked};
 fn worth_of(j: usize) -> u8
     ensures { result ≡ 2 ^ (j % 8) }
 {
-    match j % 8 {
-        0 => 1,
-        1 => 2,
-        2 => 4,
-        3 => 8,
-        4 => 16,
-        5 => 32,
-        6 => 64,
-        _ => 128,
-    }
+    1 << (j % 8)
 }
 
 // Is a number in the set? One that has no place is not.
@@ -25,10 +16,7 @@ pub fn is_marked(marks: &[u8], j: usize) -> bool
     ensures { result ≡ is_marked marks.now j }
 {
     let i = j / 8;
-    if i < marks.len() {
-        return marks[i] / worth_of(j) % 2 == 1;
-    }
-    false
+    i < marks.len() && marks[i] & worth_of(j) != 0
 }
 
 // Puts a number into the set, if there is a place for it.
@@ -37,10 +25,6 @@ pub fn mark(marks: &mut [u8], j: usize)
 {
     let i = j / 8;
     if i < marks.len() {
-        let b = marks[i];
-        let worth = worth_of(j);
-        if b / worth % 2 == 0 {
-            marks[i] = b + worth;
-        }
+        marks[i] |= worth_of(j);
     }
 }

@@ -8,6 +8,7 @@ use mathlib.Core.Logic.{⊎_elim}
 use native.Mathlib.Omega.{arith}
 use native.Mathlib.Nat.{pow-le-pow_right, lt_of_lt_of_le}
 use borrow.Author.Tests.{le-leb, lt-leb, leb-true}
+use Rattle.std.specs.Bool.{then_some}
 use lib.ListN.{length}
 use lib.Dec.{leb, lit<}
 use Rattle.numeral.specs.Digits.{all_digits, value_of}
@@ -21,9 +22,13 @@ module _ (low high n : ℕ) where
   unfolding in_range
   range-low h = simp (lt-leb low n h)
 
-  pub range-high : low ≤ n → high < n → None ≡ in_range low high n
+  pub range-test : low ≤ n → then_some (leb n high) n ≡ in_range low high n
   unfolding in_range
-  range-high h k = simp (le-leb low n h, lt-leb n high k)
+  range-test h = rw (le-leb low n h) (go (leb n high))
+    where
+      go : (t : Bool) → then_some t n ≡ cond t (Some n) None
+      go true = refl
+      go false = refl
 
   pub range-value : low ≤ n → n ≤ high → Some n ≡ in_range low high n
   unfolding in_range

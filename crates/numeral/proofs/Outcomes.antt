@@ -10,6 +10,8 @@ use lib.IntN.{ℤ, pos, negsuc, nat_abs, ◌+ℤ◌}
 use lib.ListN.{length, drop}
 use Rattle.signed.specs.Signed.{is_negative, signed_of, largest}
 use Rattle.signed.proofs.Difference.{sub-above, sub-below}
+use lib.Signed.{mag, lt_z}
+use Rattle.signed.proofs.Machine.{rd, rd-at, below-zero}
 use Rattle.numeral.specs.Digits.{is_minus}
 use Rattle.numeral.specs.Integer.{in_range, integer_of, signed_as, counter_of}
 use Rattle.numeral.specs.Worth.{whole_at, whole_of, nearest, round_at, rounded_of}
@@ -64,6 +66,14 @@ counter-minus most s e = rw e
 pub counter-plain : (most : ℕ) (s : List ℕ) → is_minus s ≡ false → signed_as false (integer_of 0 most s) ≡ counter_of most s
 unfolding counter_of
 counter-plain most s e = rw e
+
+-- ---- A number of a struct, as the machine reads it
+module _ (z : ℤ) (h : mag z < 2 ^ 63) where
+  pub below-at : lt_z (rd z) (pos 0) ≡ is_negative z
+  below-at = below-zero (record { sfits = h })
+
+  pub size-at : nat_abs (rd z) ≡ nat_abs z
+  size-at = ap nat_abs (rd-at z h)
 
 -- ---- A shift, by the sign of the exponent and its size
 pub shift-far : (e : ℤ) (by n : ℕ) → n ≡ nat_abs e → is_negative e ≡ false → Up (n + by) ≡ shift_of (e +ℤ pos by)

@@ -9,8 +9,8 @@ use native.Mathlib.Numerals.{add-one}
 use native.Mathlib.Omega.{arith}
 use lib.Dec.{lit<}
 use lib.ListN.{length, get_or, drop, drop_of_length-le}
-use Rattle.numeral.specs.Digits.{all_digits, value_from}
-use Rattle.numeral.proofs.Digits.{digit-yes, digit_low, digit-high, all_digits-at, value_from-at}
+use Rattle.numeral.specs.Digits.{is_digit, all_digits, value_from}
+use Rattle.numeral.proofs.Digits.{digit-most, all_digits-at, value_from-at}
 
 pub record Reading (s : List ℕ) (i v : ℕ) : Type 0 where
   pub inside : i ≤ length s
@@ -21,20 +21,18 @@ pub record Reading (s : List ℕ) (i v : ℕ) : Type 0 where
 pub start : (s : List ℕ) → Reading s 0 0
 start s = record { inside = omega arith; all = refl; value = refl; size = lit< tt }
 
-pub turn : (s : List ℕ) (i v : ℕ) → Reading s i v → i < length s → 48 ≤ get_or s i 0 → get_or s i 0 ≤ 57 → Reading s (i + 1) (v * 10 + (get_or s i 0 - 48))
-turn s i v r h p q =
+pub turn : (s : List ℕ) (i v : ℕ) → Reading s i v → i < length s → is_digit (get_or s i 0) ≡ true → Reading s (i + 1) (v * 10 + (get_or s i 0 - 48))
+turn s i v r h e =
+    let q = digit-most (get_or s i 0) e in
     record {
       inside = omega arith;
-      all = rw (← r.all, all_digits-at s i h, digit-yes (get_or s i 0) p q);
+      all = rw (← r.all, all_digits-at s i h, e);
       value = sym (value_from-at v s i h) ∙ r.value;
       size = let k = r.size in rw (add-one, pow-suc 10 i) (omega arith);
     }
 
-pub low : (s : List ℕ) (i v : ℕ) → Reading s i v → i < length s → get_or s i 0 < 48 → all_digits s ≡ false
-low s i v r h p = sym r.all ∙ rw (all_digits-at s i h, digit_low (get_or s i 0) p)
-
-pub high : (s : List ℕ) (i v : ℕ) → Reading s i v → i < length s → 57 < get_or s i 0 → all_digits s ≡ false
-high s i v r h p = sym r.all ∙ rw (all_digits-at s i h, digit-high (get_or s i 0) p)
+pub other : (s : List ℕ) (i v : ℕ) → Reading s i v → i < length s → is_digit (get_or s i 0) ≡ false → all_digits s ≡ false
+other s i v r h e = sym r.all ∙ rw (all_digits-at s i h, e)
 
 -- at the end nothing is left
 pub end : (s : List ℕ) (i v : ℕ) → Reading s i v → length s ≤ i → (all_digits s ≡ true) × (value_from 0 s ≡ v)

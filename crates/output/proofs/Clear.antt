@@ -1,8 +1,8 @@
--- A loop that clears a lent list from a place on, for elements of any type: what is known where it stands at i, and the laws of a start, a
--- turn and the end. Assumes nothing.
+-- A loop that clears a lent list from a place on, for elements of any type: what is known where it stands at i, and the laws of a turn
+-- and the end. Assumes nothing.
 use Prim.Native.Nat.{ℕ, suc, ◌+◌, ◌-◌, ◌≤◌, ◌<◌}
 use mathlib.Core.List.{List, [], ◌∷◌, ◌++◌, append_assoc, append-nil}
-use mathlib.Core.Path.{◌≡◌, refl, sym, ◌∙◌}
+use mathlib.Core.Path.{◌≡◌, sym, ◌∙◌}
 use native.Mathlib.Numerals.{add-one}
 use native.Mathlib.Omega.{arith}
 use lib.ListN.{length, take, set, replicate, length-set}
@@ -13,9 +13,6 @@ module _ {A : Type 0} (z : A) where
   pub record Clearing (l₀ : List A) (from : ℕ) (l : List A) (i : ℕ) : Type 0 where
     pub long : length l ≡ length l₀
     pub same : cleared_from z i l ≡ cleared_from z from l₀
-
-  pub clear-start : (l : List A) (from : ℕ) → Clearing l from l from
-  clear-start l from = record { long = refl; same = refl }
 
   pub clear-turn : {l₀ : List A} {from : ℕ} (l : List A) (i : ℕ) → Clearing l₀ from l i → i < length l → Clearing l₀ from (set l i z) (i + 1)
   unfolding cleared_from

@@ -9,7 +9,7 @@ use native.Mathlib.Omega.{arith}
 use borrow.Author.Tests.{leb-true, leb-false}
 use lib.Dec.{leb}
 use lib.ListN.{length, get_or, take, drop, set, length-set, length-append}
-use lib.Seq.{sets, sets-eq, set_out, take-append_seam, take-suc, take_all}
+use lib.Seq.{sets, sets-eq, set_out, take-append_seam, take-suc}
 use Rattle.output.specs.Over.{over, farthest, Put}
 
 -- ---- over
@@ -83,9 +83,6 @@ put_then {l} {l₁} {l₂} {s} {t} {at} p q =
 module _ {l l₁ : List ℕ} {at r₁ : ℕ} (bytes : List ℕ) (i : ℕ) (p : Put l at (take i bytes) r₁ l₁) where
   pub put-more : {l₂ : List ℕ} {r₂ : ℕ} → i < length bytes → Put l₁ r₁ (get_or bytes i 0 ∷ []) r₂ l₂ → Put l at (take (i + 1) bytes) r₂ l₂
   put-more h q = rw (add-one i, take-suc bytes i 0) (put_then p q)
-
-  pub put_all : length bytes ≤ i → Put l at bytes r₁ l₁
-  put_all h = rw (take_all i bytes h) at p
 
 -- what was written, read back
 pub put_front : {l t l' : List ℕ} {r : ℕ} → Put l 0 t r l' → length t ≤ length l → take r l' ≡ t

@@ -8,10 +8,7 @@ ghost use Rattle.output.specs.Over.{Put, cleared_from};
 pub fn front(bytes: &[u8], n: usize) -> &[u8]
     ensures { result.now ≡ take n bytes.now }
 {
-    if n < bytes.len() {
-        return &bytes[..n];
-    }
-    bytes
+    &bytes[..n.min(bytes.len())]
 }
 
 // Lays a byte over the output at a place, if that place is there. Returns the next place.
@@ -21,10 +18,7 @@ pub fn put_byte(out: &mut [u8], at: usize, b: u8) -> usize
     if at < out.len() {
         out[at] = b;
     }
-    if at < 18446744073709551615 {
-        return at + 1;
-    }
-    at
+    at.saturating_add(1)
 }
 
 // Lays bytes over the output from a place on, as far as it goes. Returns the place behind them.
@@ -32,32 +26,31 @@ pub fn put_bytes(out: &mut [u8], at: usize, bytes: &[u8]) -> usize
     ensures { Put out.old at bytes.now result out.new }
 {
     let mut place = at;
-    let mut i = 0;
-    while i < bytes.len() {
-        place = put_byte(out, place, bytes[i]);
-        i += 1;
+    for b in bytes {
+        place = put_byte(out, place, *b);
     }
     place
+}
+
+// Fills what is lent with one value from a place on.
+fn fill_from<T: Copy>(table: &mut [T], from: usize, value: T)
+    ensures { table.new ≡ cleared_from value from table.old }
+{
+    for i in from..table.len() {
+        table[i] = value;
+    }
 }
 
 // Fills a lent output with zeros from a place on.
 pub fn clear_bytes(out: &mut [u8], from: usize)
     ensures { out.new ≡ cleared_from 0 from out.old }
 {
-    let mut i = from;
-    while i < out.len() {
-        out[i] = 0;
-        i += 1;
-    }
+    fill_from(out, from, 0)
 }
 
 // Fills a lent table with zeros from a place on.
 pub fn clear_numbers(table: &mut [i64], from: usize)
     ensures { table.new ≡ cleared_from (pos 0) from table.old }
 {
-    let mut i = from;
-    while i < table.len() {
-        table[i] = 0;
-        i += 1;
-    }
+    fill_from(table, from, 0)
 }

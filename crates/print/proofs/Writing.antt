@@ -1,16 +1,19 @@
 -- What the writers leave: one law for each of their returns. l is the output as it came, l₁ and l₂ what the calls left. Assumes nothing.
-use Prim.Native.Nat.{ℕ, ◌+◌, ◌-◌, ◌/◌, ◌%◌, ◌<◌, ◌≤◌, ◌^◌, min}
+use Prim.Native.Nat.{ℕ, ◌+◌, ◌/◌, ◌%◌, ◌<◌, ◌≤◌}
 use mathlib.Core.Bool.{Bool, true, false}
 use mathlib.Core.List.{List, [], ◌∷◌, ◌++◌, append-nil}
 use mathlib.Core.Path.{◌≡◌, refl, ap, ◌∙◌, sym}
 use native.Mathlib.Omega.{arith}
 use borrow.Author.Tests.{eq-eqb, ne_eqb}
 use lib.IntN.{ℤ, pos, negsuc, nat_abs, ◌+ℤ◌}
+use lib.Dec.{lit<}
+use mir.Syntax.{w64}
+use mir.Val.{SFits, of_z}
+use Rattle.signed.proofs.Machine.{bits-inj}
 use Rattle.output.specs.Over.{Put}
 use Rattle.output.proofs.Over.{put_then}
-use Rattle.signed.specs.Signed.{is_negative, same_z, signed_of, largest}
-use Rattle.signed.proofs.Difference.{sub_same}
-use Rattle.signed.proofs.Sign.{signed_sub, size-signed, negative-signed, positive-signed}
+use Rattle.signed.specs.Signed.{is_negative, same_z, signed_of}
+use Rattle.signed.proofs.Sign.{same_z-true, same_z-refl, size-signed, negative-signed, positive-signed}
 use Rattle.decimals.specs.Decimal.{kept, strip_from}
 use Rattle.numeral.specs.declared.Decimal.{Decimal}
 use Rattle.decimals.specs.declared.Stripped.{Stripped}
@@ -43,6 +46,18 @@ unfolding signed_text
 wrote-signed z negative n e f p = rw (← e, ← f) p
 
 -- ---- put_scaled
+-- an exponent is 0 if its bits are
+module _ (e : ℤ) (f : SFits w64 e) where
+  pub zero-yes : of_z w64 e ≡ 0 → same_z e (pos 0) ≡ true
+  zero-yes h = let p : e ≡ pos 0 = bits-inj f (record { sfits = lit< tt }) h in rw p (same_z-refl (pos 0))
+
+  pub zero-no : (of_z w64 e ≡ 0 → ⊥) → same_z e (pos 0) ≡ false
+  zero-no n = go (same_z e (pos 0)) refl
+    where
+      go : (b : Bool) → same_z e (pos 0) ≡ b → same_z e (pos 0) ≡ false
+      go true q = absurd (n (ap (of_z w64) (same_z-true e (pos 0) q)))
+      go false q = q
+
 pub wrote-whole : {l l₁ : List ℕ} {at r : ℕ} (t : List ℕ) (e : ℤ) → same_z e (pos 0) ≡ true → Put l at t r l₁ → Put l at (t ++ power_text e) r l₁
 unfolding power_text
 wrote-whole t e h p = rw (h, append-nil t) p
@@ -57,17 +72,6 @@ pub wrote-decimal : {l l₁ : List ℕ} {at r : ℕ} (d : Decimal) (negative : B
     → e ≡ d.exponent → Put l at (number_text negative n ++ power_text e) r l₁ → Put l at (decimal_text d) r l₁
 unfolding decimal_text signed_text
 wrote-decimal d negative n e p q f w = rw (← p, ← q, ← f) w
-
--- ---- sample_power
-pub power_below : (z : ℕ) → z < 12 → signed_of true (min (12 - z) largest) ≡ negsuc 11 +ℤ pos z
-power_below z h =
-    let e : min (12 - z) largest ≡ 12 - z = omega arith in
-    rw e (signed_sub true (12 - z) ∙ sub_same 0 (12 - z) z 12 (omega arith))
-
-pub power-above : (z : ℕ) → 12 ≤ z → z ≤ 2 ^ 63 → signed_of false (min (z - 12) largest) ≡ negsuc 11 +ℤ pos z
-power-above z h k =
-    let e : min (z - 12) largest ≡ z - 12 = omega arith in
-    rw e (signed_sub false (z - 12) ∙ sub_same (z - 12) 0 z 12 (omega arith))
 
 -- ---- put_sample
 zero-text : decimal_text (record { mantissa = pos 0; exponent = pos 0 }) ≡ 48 ∷ []

@@ -1,21 +1,22 @@
 // Numbers written out over a lent output: what does not fit is dropped, and counting goes on.
 #![tactic(auto)]
 
-ghost use Rattle.std.specs.Prelude.{◌≡◌, ◌++◌, ◌≤◌, ◌^◌, pos, negsuc, ◌+ℤ◌};
+ghost use Rattle.std.specs.Prelude.{◌≡◌, ◌++◌, ◌<◌, pos, negsuc, ◌+ℤ◌};
 ghost use Rattle.output.specs.Over.{Put};
 ghost use Rattle.print.specs.Printed.{digits_of, number_text, signed_text, power_text, decimal_text, sample_text};
 
+use decimals::Stripped;
 use numeral::Decimal;
 
-// Writes n in decimal digits.
+// Writes n in decimal digits, those of a tenth of it first: there is no memory in which to turn them round.
 pub fn put_integer(out: &mut [u8], at: usize, n: u64) -> usize
     ensures { Put out.old at (digits_of n) result out.new }
 {
     if n < 10 {
-        return output::put_byte(out, at, 48 + n as u8);
+        return output::put_byte(out, at, b'0' + n as u8);
     }
     let next = put_integer(out, at, n / 10);
-    output::put_byte(out, next, 48 + (n % 10) as u8)
+    output::put_byte(out, next, b'0' + (n % 10) as u8)
 }
 
 // Writes a size with its sign.
@@ -23,7 +24,7 @@ fn put_number(out: &mut [u8], at: usize, negative: bool, size: u64) -> usize
     ensures { Put out.old at (number_text negative size) result out.new }
 {
     if negative {
-        let next = output::put_byte(out, at, 45);
+        let next = output::put_byte(out, at, b'-');
         return put_integer(out, next, size);
     }
     put_integer(out, at, size)
@@ -33,7 +34,7 @@ fn put_number(out: &mut [u8], at: usize, negative: bool, size: u64) -> usize
 pub fn put_signed(out: &mut [u8], at: usize, z: i64) -> usize
     ensures { Put out.old at (signed_text z) result out.new }
 {
-    put_number(out, at, signed::is_negative(z), signed::size(z))
+    put_number(out, at, z < 0, z.unsigned_abs())
 }
 
 // Writes a size with its sign, then an exponent that is not 0.
@@ -41,10 +42,10 @@ fn put_scaled(out: &mut [u8], at: usize, negative: bool, size: u64, e: i64) -> u
     ensures { Put out.old at (number_text negative size ++ power_text e) result out.new }
 {
     let behind = put_number(out, at, negative, size);
-    if signed::same(e, 0) {
+    if e == 0 {
         return behind;
     }
-    let next = output::put_byte(out, behind, 101);
+    let next = output::put_byte(out, behind, b'e');
     put_signed(out, next, e)
 }
 
@@ -52,32 +53,26 @@ fn put_scaled(out: &mut [u8], at: usize, negative: bool, size: u64, e: i64) -> u
 pub fn put_decimal(out: &mut [u8], at: usize, d: Decimal) -> usize
     ensures { Put out.old at (decimal_text d) result out.new }
 {
-    let m = d.mantissa;
-    let e = d.exponent;
-    put_scaled(out, at, signed::is_negative(m), signed::size(m), e)
+    let Decimal { mantissa, exponent } = d;
+    put_scaled(out, at, mantissa < 0, mantissa.unsigned_abs(), exponent)
 }
 
 // The exponent of a number of steps of 10^-12 that has so many trailing zeros.
 fn sample_power(zeros: u64) -> i64
-    requires { zeros ≤ 2 ^ 63 }
+    requires { zeros < 20 }
     ensures { result ≡ negsuc 11 +ℤ pos zeros }
 {
-    if zeros < 12 {
-        return signed::with_sign(true, 12 - zeros);
-    }
-    signed::with_sign(false, zeros - 12)
+    zeros as i64 - 12
 }
 
 // Writes a sample, given in steps of 10^-12, as a decimal.
 pub fn put_sample(out: &mut [u8], at: usize, steps: i64) -> usize
     ensures { Put out.old at (sample_text steps) result out.new }
 {
-    let size = signed::size(steps);
+    let size = steps.unsigned_abs();
     if size == 0 {
-        return output::put_byte(out, at, 48);
+        return output::put_byte(out, at, b'0');
     }
-    let t = decimals::strip(size);
-    let v = t.v;
-    let zeros = t.zeros;
-    put_scaled(out, at, signed::is_negative(steps), v, sample_power(zeros))
+    let Stripped { v, zeros } = decimals::strip(size);
+    put_scaled(out, at, steps < 0, v, sample_power(zeros))
 }

@@ -2,16 +2,14 @@
 -- Assumes nothing.
 use Prim.Native.Nat.{ℕ, ◌+◌, ◌%◌, ◌≤◌, ◌<◌}
 use mathlib.Core.Bool.{Bool, true, false, true≢false}
-use mathlib.Core.List.{List}
+use mathlib.Core.List.{List, [], ◌∷◌}
 use mathlib.Core.Logic.{◌⊎◌, inl, inr}
-use mathlib.Core.Path.{◌≡◌, sym, ◌∙◌}
+use mathlib.Core.Path.{◌≡◌, refl, sym, ◌∙◌}
 use native.Mathlib.Nat.{mod-lt}
-use native.Mathlib.Numerals.{add-one}
 use native.Mathlib.Omega.{arith}
 use borrow.Author.Tests.{eq-eqb, ne_eqb, eqb-true}
 use lib.Dec.{eqb}
-use lib.ListN.{length, get_or, drop, drop_of_length-le}
-use lib.Seq.{drop-cons}
+use Rattle.std.specs.List.{fold}
 use Rattle.text.proofs.Cases.{lt-or-ge}
 use Rattle.sets.specs.Sets.{kept_of, places_after, Met, unless_new, AllMet, is_in, mixed_all, mixed}
 use Rattle.sets.specs.declared.Kept.{Kept}
@@ -43,10 +41,6 @@ module _ {key : ℕ → ℕ} {asked : ℕ → Bool} where
 
 -- ---- parts: by the tests of the code, and that each number is in one
 module _ (x parts : ℕ) where
-  pub in-none : parts ≡ 0 → (part : ℕ) → true ≡ is_in x parts part
-  unfolding is_in
-  in-none e part = rw (eq-eqb parts 0 e)
-
   module _ (n : parts ≡ 0 → ⊥) where
     pub in_some : (part : ℕ) → eqb (x % parts) part ≡ is_in x parts part
     unfolding is_in
@@ -69,11 +63,8 @@ module _ (places : List ℕ) (key x : ℕ) (q : x ≡ key) where
   pub places-as : {l : List ℕ} → l ≡ places_after places x → l ≡ places_after places key
   places-as e = e ∙ rw q
 
--- ---- the loop over bytes: those that are left make the same number
-pub mix-more : (h : ℕ) (s : List ℕ) (i : ℕ) → i < length s → mixed_all h (drop i s) ≡ mixed_all (mixed h (get_or s i 0)) (drop (i + 1) s)
+-- ---- a fold over bytes is the number made of them
+pub mixed-fold : (h : ℕ) (s : List ℕ) → fold mixed h s ≡ mixed_all h s
 unfolding mixed_all
-mix-more h s i l = rw (add-one i, drop-cons s i 0)
-
-pub mix-end : (h : ℕ) (s : List ℕ) (i : ℕ) → length s ≤ i → mixed_all h (drop i s) ≡ h
-unfolding mixed_all
-mix-end h s i l = rw (drop_of_length-le s l)
+mixed-fold h [] = refl
+mixed-fold h (b ∷ s) = mixed-fold (mixed h b) s

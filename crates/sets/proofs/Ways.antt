@@ -155,9 +155,6 @@ pub record Looking (places : List ℕ) (x j : ℕ) : Type 0 where
   pub few : j ≤ way_steps
   pub same : way_from places x j (way_steps - j) ≡ way_from places x 0 way_steps
 
-pub look-start : (places : List ℕ) (x : ℕ) → Looking places x 0
-look-start places x = record { few = omega arith; same = refl }
-
 module _ {places : List ℕ} {x j : ℕ} (w : Looking places x j) where
   pub look-end : way_steps ≤ j → Blocked ≡ way_from places x 0 way_steps
   look-end h = let e : way_steps - j ≡ 0 = omega arith in sym (way-none places x j) ∙ (rw e at w.same)

@@ -4,6 +4,14 @@
 ghost use Rattle.std.specs.Prelude.{◌≡◌};
 ghost use Rattle.sets.specs.Sets.{way_of, kept_of, places_after, mixed, mixed_all, is_in};
 
+// How many places the way of a number has.
+const STEPS: usize = 128;
+
+// What spreads a number made of two evenly.
+const PRIME: u64 = 17592186044399;
+
+const FACTOR: u64 = 1000003;
+
 // What the way of a number meets first: the number itself, an empty place, or neither.
 #[derive(Clone, Copy)]
 enum Way {
@@ -20,20 +28,16 @@ pub enum Kept {
     Full,
 }
 
-// What the way of a number meets first, in 128 steps from its home on.
+// What the way of a number meets first, from its home on.
 fn look(set: &[u64], key: u64) -> Way
     ensures { result ≡ way_of set.now key }
 {
-    if key == 0 {
+    if key == 0 || set.is_empty() {
         return Way::Blocked;
     }
     let long = set.len();
-    if long == 0 {
-        return Way::Blocked;
-    }
     let home = (key % long as u64) as usize;
-    let mut j: usize = 0;
-    while j < 128 {
+    for j in 0..STEPS {
         let at = (home + j) % long;
         let here = set[at];
         if here == key {
@@ -42,7 +46,6 @@ fn look(set: &[u64], key: u64) -> Way
         if here == 0 {
             return Way::Free(at);
         }
-        j += 1;
     }
     Way::Blocked
 }
@@ -66,28 +69,19 @@ pub fn keep(set: &mut [u64], key: u64) -> Kept
 pub fn mix(a: u64, b: u64) -> u64
     ensures { result ≡ mixed a b }
 {
-    (a % 17592186044399 * 1000003 + b % 1000003) % 17592186044399
+    (a % PRIME * FACTOR + b % FACTOR) % PRIME
 }
 
 // A number made of a number and bytes, one after the other.
 pub fn mix_all(start: u64, bytes: &[u8]) -> u64
     ensures { result ≡ mixed_all start bytes.now }
 {
-    let mut made = start;
-    let mut i: usize = 0;
-    while i < bytes.len() {
-        made = mix(made, bytes[i] as u64);
-        i += 1;
-    }
-    made
+    bytes.iter().fold(start, |made, b| mix(made, u64::from(*b)))
 }
 
 // Is a number in a part, of so many, by its remainder? Where there are no parts, it is in each.
 pub fn is_in(x: u64, parts: u64, part: u64) -> bool
     ensures { result ≡ is_in x parts part }
 {
-    if parts == 0 {
-        return true;
-    }
-    x % parts == part
+    parts == 0 || x % parts == part
 }

@@ -7,7 +7,7 @@ use mathlib.Core.Path.{◌≡◌, refl, sym, ap, ◌∙◌}
 use native.Mathlib.Nat.{add-zero}
 use native.Mathlib.Numerals.{add-one}
 use native.Mathlib.Omega.{arith}
-use borrow.Author.Tests.{ne_eqb, eqb-true, lt-ltb, le-ltb, ltb-true, le-leb}
+use borrow.Author.Tests.{ne_eqb, eqb-true, le-ltb, ltb-true, le-leb}
 use lib.Dec.{eqb, ltb}
 use lib.ListN.{length, get_or, take, drop, length-append}
 use lib.Seq.{drop-cons}
@@ -18,7 +18,7 @@ use Rattle.text.proofs.Cases.{and_both}
 use Rattle.fields.proofs.Fields.{Word, fields-last}
 use Rattle.fields.proofs.Visible.{is_visible, all_visible, visible-yes, visible-least, visible-append, visible_plain, visible-word}
 use Rattle.numeral.specs.Digits.{is_digit, all_digits, value_from, is_minus, sign_len, unsigned}
-use Rattle.numeral.proofs.Digits.{digit-yes, digit-least, digit-most, all_digits-append, value_from-append}
+use Rattle.numeral.proofs.Digits.{digit-least, digit-most, all_digits-append, value_from-append}
 use Rattle.decimals.specs.Decimal.{digits, fraction, is_mantissa, decimal_of}
 use Rattle.decimals.specs.Inside.{large, pointed_of}
 use Rattle.decimals.proofs.Plain.{Parts, parts_whole, parts-point, decimal-pointed}
@@ -32,14 +32,6 @@ use Rattle.shape.specs.declared.Spelled.{Spelled}
 
 -- ---- A byte at a place
 module _ (text : List ℕ) (at b : ℕ) where
-  pub stands-some : at < length text → eqb (get_or text at 0) b ≡ stands_at text at b
-  unfolding stands_at
-  stands-some h = rw (lt-ltb at (length text) h)
-
-  pub stands-none : length text ≤ at → false ≡ stands_at text at b
-  unfolding stands_at
-  stands-none h = rw (le-ltb at (length text) h)
-
   module _ (e : stands_at text at b ≡ true) where
     pub stands-within : at < length text
     unfolding stands_at
@@ -61,9 +53,10 @@ module _ (text : List ℕ) (at v w i : ℕ) (g : GatheredFrom text at v (record 
   abbrev byte : ℕ
   byte = get_or text i 0
 
-  pub gather-turn : 48 ≤ byte → byte ≤ 57 → w ≤ 99999999999999999 → GatheredFrom text at v (record { v = w * 10 + (byte - 48); stop = i + 1 })
+  pub gather-turn : is_digit byte ≡ true → w < 100000000000000000 → GatheredFrom text at v (record { v = w * 10 + (byte - 48); stop = i + 1 })
   unfolding all_digits value_from
-  gather-turn p q k =
+  gather-turn d k =
+      let q = digit-most byte d in
       let e : drop i text ≡ byte ∷ drop (i + 1) text = drop-cons text i 0 h ∙ rw (add-one i) in
       let l : length (g.front ++ byte ∷ []) ≡ length g.front + 1 = length-append g.front (byte ∷ []) in
       let j = g.long in
@@ -71,7 +64,7 @@ module _ (text : List ℕ) (at v w i : ℕ) (g : GatheredFrom text at v (record 
         front = g.front ++ byte ∷ [];
         split = g.split ∙ ap (λ (t : List ℕ). g.front ++ t) e ∙ sym (append_assoc g.front (byte ∷ []) (drop (i + 1) text));
         long = omega arith;
-        all = all_digits-append g.front (byte ∷ []) ∙ rw (g.all, digit-yes byte p q);
+        all = all_digits-append g.front (byte ∷ []) ∙ rw (g.all, d);
         value = ap (λ (x : ℕ). x * 10 + (byte - 48)) g.value ∙ sym (value_from-append g.front (byte ∷ []) v);
         small = omega arith;
       }
@@ -97,13 +90,7 @@ module _ (text : List ℕ) (start : ℕ) (r : Digits) (g : GatheredFrom text sta
         behind = refl;
       }
 
-  pub spell-later : start ≤ r.stop
-  spell-later = let l = g.long in omega arith
-
   module _ (e : stands_at text r.stop 46 ≡ true) (t : Digits) (k : GatheredFrom text (r.stop + 1) r.v t) where
-    pub spell-further : r.stop + 1 ≤ t.stop
-    spell-further = let l = k.long in omega arith
-
     pub spell-point : SpelledFrom text start (record { v = t.v; count = t.stop - start - 1; behind = t.stop - r.stop - 1; stop = t.stop })
     spell-point =
         let a = g.long in
@@ -304,7 +291,7 @@ module _ (text : List ℕ) (at start : ℕ) (minus : Bool) (g : SignFrom text at
         let small = k.small in
         rw (v, b) (rw (sign-minus minus k.front head) at (decimal-pointed line (omega arith) (rw u parts.part) (rw u mantissa) (omega arith)))
 
-    pub value-held : (n : (Option Decimal)) (d : Decimal) → n ≡ pointed_of minus r.v r.behind → n ≡ Some d → ◌≡◌ {A = Held} (record { item = Value d; next = r.stop + 1 }) (held_at text at)
+    pub value-held : (n : Option Decimal) (d : Decimal) → n ≡ pointed_of minus r.v r.behind → n ≡ Some d → ◌≡◌ {A = Held} (record { item = Value d; next = r.stop + 1 }) (held_at text at)
     unfolding held_at bare_of line_at
     value-held n d p q =
         let l = line-long in

@@ -1,13 +1,11 @@
 -- What the inner functions answer. Nothing here needs to be believed: laws lead from these to the definitions of the other files.
-use Rattle.std.specs.Prelude.{ℕ, ◌+◌, ◌<◌, Bool, true, cond, ◌&&◌, List, [], ◌∷◌, ◌++◌, ◌≡◌, eqb, ltb, length, get_or, drop}
+use Rattle.std.specs.Prelude.{ℕ, ◌+◌, ◌<◌, Bool, true, cond, ◌&&◌, List, [], ◌∷◌, ◌++◌, ◌≡◌, eqb, ltb, length, get_or, drop, None, Option, Some}
 use Rattle.numeral.specs.Digits.{all_digits, value_from}
 use Rattle.decimals.specs.Inside.{large}
 use Rattle.shape.specs.Stored.{held_at}
-use Rattle.shape.specs.declared.Item.TheVariants.{Value}
 use Rattle.shape.specs.declared.Digits.{Digits}
 use Rattle.shape.specs.declared.Spelled.{Spelled}
-use Rattle.shape.specs.declared.Alone.{Alone}
-use Rattle.shape.specs.declared.Alone.TheVariants.{Value as AloneValue, Other}
+use Rattle.shape.specs.declared.Held.{Held}
 
 -- does a byte stand at a place of a text?
 unfoldable pub stands_at : List ℕ → ℕ → ℕ → Bool
@@ -50,7 +48,7 @@ pub record SignFrom (text : List ℕ) (at start : ℕ) (minus : Bool) : Type 0 w
   pub split : drop at text ≡ sign_text minus ++ drop start text
   pub long : start ≡ at + length (sign_text minus)
 
--- a value that was found alone on the line that starts at a place is what that line holds
-abbrev pub AloneAt : List ℕ → ℕ → Alone → Type 0
-AloneAt text at (AloneValue d next) = record { item = Value d; next = next } ≡ held_at text at
-AloneAt text at Other = Unit
+-- a line that holds a value alone is the one that starts at a place
+abbrev pub AloneAt : List ℕ → ℕ → Option Held → Type 0
+AloneAt text at (Some held) = held ≡ held_at text at
+AloneAt text at None = Unit

@@ -14,8 +14,14 @@ ghost use Rattle.shape.specs.Answers.{number_of, used_of};
 use numeral::Decimal;
 use text::Mark;
 
+// From here on a number has its 18 digits.
+const FULL: u64 = 100_000_000_000_000_000;
+
+// The largest sample, 100,000 in steps of 10^-12.
+const FARTHEST: u64 = 100_000_000_000_000_000;
+
 // The rules that a file follows: those of 1.3.0 and 1.3.1, or those of 1.4.0 and 1.4.1.
-#[derive(Clone, Copy)]
+#[derive(Clone, Copy, PartialEq, Eq)]
 pub enum Edition {
     V13,
     V14,
@@ -83,28 +89,19 @@ struct Spelled {
     stop: usize,
 }
 
-// A value that stands alone on a line, and where the next line starts; or anything else, which is to be looked at more closely.
-#[derive(Clone, Copy)]
-enum Alone {
-    Value(Decimal, usize),
-    Other,
-}
-
 // What the one field of a line holds; a line with none or with more is at fault. Of a plain line that may stand in a file this is what it holds.
 pub fn plain_item(line: &[u8]) -> Item
     ensures { result ≡ fields_item (fields_of line.now) }
 {
     let field = fields::next_field(line, 0);
-    let start = field.start;
-    let stop = field.stop;
-    if line.len() <= start {
+    if line.len() <= field.start {
         return Item::Bad;
     }
-    let second = fields::next_field(line, stop);
+    let second = fields::next_field(line, field.stop);
     if second.start < line.len() {
         return Item::Bad;
     }
-    match decimals::read_decimal(&line[start..stop]) {
+    match decimals::read_decimal(&line[field.start..field.stop]) {
         Some(d) => Item::Value(d),
         None => Item::Bad,
     }
@@ -118,8 +115,7 @@ fn clean_item(line: &[u8]) -> Item
     match text::mark_of(line) {
         Mark::Comment => Item::Skipped,
         Mark::Plain => plain_item(line),
-        Mark::Blank => Item::Bad,
-        Mark::Section => Item::Bad,
+        Mark::Blank | Mark::Section => Item::Bad,
     }
 }
 
@@ -138,10 +134,8 @@ fn cut_item(line: &[u8], clean: bool) -> Item
     requires { clean ≡ not (any_control line.now) }
     ensures { result ≡ item_of line.now }
 {
-    if clean {
-        if line.len() <= 1024 {
-            return clean_item(line);
-        }
+    if clean && line.len() <= text::LONGEST {
+        return clean_item(line);
     }
     line_item(line)
 }
@@ -150,10 +144,7 @@ fn cut_item(line: &[u8], clean: bool) -> Item
 fn stands_at(text: &[u8], at: usize, b: u8) -> bool
     ensures { result ≡ stands_at text.now at b }
 {
-    if at < text.len() {
-        return text[at] == b;
-    }
-    false
+    at < text.len() && text[at] == b
 }
 
 // Gathers the digits from a place on behind v, up to another byte or to 18 digits.
@@ -162,22 +153,17 @@ fn gather(text: &[u8], at: usize, v: u64) -> Digits
     ensures { GatheredFrom text.now at v result }
 {
     let mut w = v;
-    let mut i = at;
-    while i < text.len() {
+    for i in at..text.len() {
         let b = text[i];
-        if b < 48 {
+        if !b.is_ascii_digit() || FULL <= w {
             return Digits { v: w, stop: i };
         }
-        if 57 < b {
-            return Digits { v: w, stop: i };
-        }
-        if 99999999999999999 < w {
-            return Digits { v: w, stop: i };
-        }
-        w = w * 10 + (b - 48) as u64;
-        i += 1;
+        w = w * 10 + u64::from(b - b'0');
     }
-    Digits { v: w, stop: i }
+    Digits {
+        v: w,
+        stop: text.len().max(at),
+    }
 }
 
 // Digits from a place on, with a point among them or not.
@@ -186,11 +172,10 @@ fn spell(text: &[u8], start: usize) -> Spelled
 {
     let whole = gather(text, start, 0);
     let point = whole.stop;
-    if stands_at(text, point, 46) {
-        let all = gather(text, point + 1, whole.v);
-        let stop = all.stop;
+    if stands_at(text, point, b'.') {
+        let Digits { v, stop } = gather(text, point + 1, whole.v);
         return Spelled {
-            v: all.v,
+            v,
             count: stop - start - 1,
             behind: stop - point - 1,
             stop,
@@ -204,33 +189,28 @@ fn spell(text: &[u8], start: usize) -> Spelled
     }
 }
 
-// The value of the line that starts at a place and whose digits start at another, behind a minus or none.
-fn signed_value(minus: bool, text: &[u8], at: usize, start: usize) -> Alone
+// The line that starts at a place and whose digits start at another, behind a minus or none, if they are all that it holds.
+fn signed_value(minus: bool, text: &[u8], at: usize, start: usize) -> Option<Held>
     requires { SignFrom text.now at start minus }
     ensures { AloneAt text.now at result }
 {
     let number = spell(text, start);
     let stop = number.stop;
-    if number.count == 0 {
-        return Alone::Other;
+    if number.count == 0 || 32 < stop - at || !stands_at(text, stop, b'\n') {
+        return None;
     }
-    if 32 < stop - at {
-        return Alone::Other;
-    }
-    if !stands_at(text, stop, 10) {
-        return Alone::Other;
-    }
-    match decimals::pointed(minus, number.v, number.behind) {
-        Some(d) => Alone::Value(d, stop + 1),
-        None => Alone::Other,
-    }
+    let d = decimals::pointed(minus, number.v, number.behind)?;
+    Some(Held {
+        item: Item::Value(d),
+        next: stop + 1,
+    })
 }
 
-// The value of the line that starts at a place, if it stands there alone without an exponent. Most stored lines are such.
-fn quick_value(text: &[u8], at: usize) -> Alone
+// The line that starts at a place, if a value stands there alone without an exponent. Most stored lines are such.
+fn quick_value(text: &[u8], at: usize) -> Option<Held>
     ensures { AloneAt text.now at result }
 {
-    if stands_at(text, at, 45) {
+    if stands_at(text, at, b'-') {
         return signed_value(true, text, at, at + 1);
     }
     signed_value(false, text, at, at)
@@ -247,9 +227,8 @@ fn cut_held(text: &[u8], at: usize) -> Held
         };
     }
     let line = text::cut_line(text, at);
-    let stop = line.stop;
     Held {
-        item: cut_item(&text[at..stop], line.clean),
+        item: cut_item(&text[at..line.stop], line.clean),
         next: line.next,
     }
 }
@@ -259,11 +238,8 @@ pub fn item_at(text: &[u8], at: usize) -> Held
     ensures { result ≡ held_at text.now at }
 {
     match quick_value(text, at) {
-        Alone::Value(d, next) => Held {
-            item: Item::Value(d),
-            next,
-        },
-        Alone::Other => cut_held(text, at),
+        Some(held) => held,
+        None => cut_held(text, at),
     }
 }
 
@@ -273,22 +249,15 @@ pub fn count_values(stored: &[u8]) -> Option<usize>
 {
     let mut at = 0;
     let mut n = 0;
+    // Each line says itself where the next one starts.
     while at < stored.len() {
         let line = item_at(stored, at);
-        let item = line.item;
-        let behind = line.next;
-        match item {
-            Item::Value(_) => {
-                n += 1;
-                at = behind;
-            }
-            Item::Skipped => {
-                at = behind;
-            }
-            Item::Bad => {
-                return None;
-            }
+        match line.item {
+            Item::Value(_) => n += 1,
+            Item::Skipped => {}
+            Item::Bad => return None,
         }
+        at = line.next;
     }
     Some(n)
 }
@@ -297,18 +266,12 @@ pub fn count_values(stored: &[u8]) -> Option<usize>
 pub fn is_plain(edition: Edition, num: usize, count: usize) -> bool
     ensures { result ≡ is_plain edition num count }
 {
-    match edition {
-        Edition::V13 => false,
-        Edition::V14 => count == num,
-    }
+    edition == Edition::V14 && count == num
 }
 
 // The sample that a value makes of the sum so far, if both are within their limits.
 pub fn add_value(sum: i64, d: Decimal) -> Option<i64>
     ensures { result ≡ add_of sum d }
 {
-    match numeral::rounded(d) {
-        Some(v) => signed::plus(sum, v, 100000000000000000),
-        None => None,
-    }
+    signed::plus(sum, numeral::rounded(d)?, FARTHEST)
 }

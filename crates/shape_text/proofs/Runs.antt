@@ -54,6 +54,13 @@ starts-run d e (r ∷ rs) n = go (same_z e r.value)
     go true = rw (apart e d n)
     go false = rw (apart e d n)
 
+unlike : (a b : ℤ) → (a ≡ b → ⊥) → same_z a b ≡ false
+unlike a b n = go (same_z a b) refl
+  where
+    go : (t : Bool) → same_z a b ≡ t → same_z a b ≡ false
+    go true e = absurd (n (same_z-true a b e))
+    go false e = e
+
 -- ---- run_end: the run that starts at i goes on to before j
 pub record Running (zs : List ℤ) (i j : ℕ) : Type 0 where
   pub further : i < j
@@ -80,8 +87,9 @@ module _ {zs : List ℤ} {i j : ℕ} (r : Running zs i j) where
             ∙ grown-more (step_at zs i) (j - i - 1) (runs_from zs (suc j)));
       }
 
-  pub running-other : j < length zs → same_z (step_at zs j) (step_at zs i) ≡ false → RunAt zs i j
-  running-other h e =
+  pub running-other : j < length zs → (step_at zs j ≡ step_at zs i → ⊥) → RunAt zs i j
+  running-other h n =
+      let e = unlike (step_at zs j) (step_at zs i) n in
       record {
         further = r.further;
         inside = r.inside;

@@ -9,6 +9,12 @@ ghost use Rattle.shape_text.specs.Inside.{step_at, RunAt};
 
 use shape::Edition;
 
+// The largest sample, 100,000 in steps of 10^-12.
+const FARTHEST: u64 = 100_000_000_000_000_000;
+
+// The most samples of a shape.
+const MOST: usize = 1_000_000;
+
 // Why samples are not written: the refusals SHAPE and OUTPUT.
 #[derive(Clone, Copy, PartialEq, Eq)]
 pub enum Unwritten {
@@ -41,28 +47,14 @@ pub fn length_of(written: Written) -> usize
 fn all_within(samples: &[i64]) -> bool
     ensures { result ≡ all_within samples.now }
 {
-    let mut i = 0;
-    while i < samples.len() {
-        let z = samples[i];
-        if 100000000000000000 < signed::size(z) {
-            return false;
-        }
-        i += 1;
-    }
-    true
+    samples.iter().all(|z| z.unsigned_abs() <= FARTHEST)
 }
 
 // May these samples be written?
 fn is_writable(samples: &[i64]) -> bool
     ensures { result ≡ is_writable samples.now }
 {
-    if samples.len() == 0 {
-        return false;
-    }
-    if 1000000 < samples.len() {
-        return false;
-    }
-    all_within(samples)
+    !samples.is_empty() && samples.len() <= MOST && all_within(samples)
 }
 
 // How far the sample at i is from the one before it; the first from 0.
@@ -74,11 +66,7 @@ fn step(samples: &[i64], i: usize) -> i64
     if i == 0 {
         return z;
     }
-    let before = samples[i - 1];
-    match signed::minus(z, before, 200000000000000000) {
-        Some(d) => d,
-        None => 0,
-    }
+    z - samples[i - 1]
 }
 
 // The place behind the longest run of equal differences that starts at i.
@@ -87,14 +75,12 @@ fn run_end(samples: &[i64], i: usize) -> usize
     ensures { RunAt samples.now i result }
 {
     let d = step(samples, i);
-    let mut j = i + 1;
-    while j < samples.len() {
-        if !signed::same(step(samples, j), d) {
+    for j in i + 1..samples.len() {
+        if step(samples, j) != d {
             return j;
         }
-        j += 1;
     }
-    j
+    samples.len()
 }
 
 // How many values the runs are written as: one for a value that stands alone, three for a run.
@@ -104,13 +90,10 @@ fn packed_count(samples: &[i64]) -> usize
 {
     let mut i = 0;
     let mut n = 0;
+    // Each run says itself where the next one starts.
     while i < samples.len() {
         let end = run_end(samples, i);
-        if end - i == 1 {
-            n += 1;
-        } else {
-            n += 3;
-        }
+        n += if end - i == 1 { 1 } else { 3 };
         i = end;
     }
     n
@@ -120,10 +103,7 @@ fn packed_count(samples: &[i64]) -> usize
 fn is_plain_text(edition: Edition, packed: usize, plain: usize) -> bool
     ensures { result ≡ is_plain_text edition packed plain }
 {
-    match edition {
-        Edition::V13 => false,
-        Edition::V14 => plain <= packed,
-    }
+    edition == Edition::V14 && plain <= packed
 }
 
 // Writes a value on a line of its own.
@@ -131,7 +111,7 @@ fn put_value(out: &mut [u8], at: usize, z: i64) -> usize
     ensures { Put out.old at (ended_lines (sample_text z ∷ [])) result out.new }
 {
     let next = print::put_sample(out, at, z);
-    output::put_byte(out, next, 10)
+    output::put_byte(out, next, b'\n')
 }
 
 // Writes a run of n equal differences: the value, and for n of 2 and more the value again and n - 2.
@@ -145,7 +125,7 @@ fn put_run(out: &mut [u8], at: usize, d: i64, n: usize) -> usize
     }
     let second = put_value(out, first, d);
     let count = print::put_integer(out, second, (n - 2) as u64);
-    output::put_byte(out, count, 10)
+    output::put_byte(out, count, b'\n')
 }
 
 // Writes every run of differences.
@@ -155,6 +135,7 @@ fn put_packed(out: &mut [u8], at: usize, samples: &[i64]) -> usize
 {
     let mut place = at;
     let mut i = 0;
+    // Each run says itself where the next one starts.
     while i < samples.len() {
         let end = run_end(samples, i);
         place = put_run(out, place, step(samples, i), end - i);
@@ -168,11 +149,8 @@ fn put_plain(out: &mut [u8], at: usize, samples: &[i64]) -> usize
     ensures { Put out.old at (ended_lines (plain_lines samples.now)) result out.new }
 {
     let mut place = at;
-    let mut i = 0;
-    while i < samples.len() {
-        let z = samples[i];
-        place = put_value(out, place, z);
-        i += 1;
+    for z in samples {
+        place = put_value(out, place, *z);
     }
     place
 }
@@ -195,7 +173,7 @@ pub fn put_stored(out: &mut [u8], at: usize, samples: &[i64], edition: Edition) 
     if all_within(samples) {
         return put_shape(out, at, samples, edition);
     }
-    output::put_bytes(out, at, b"")
+    at
 }
 
 // Writes samples, given in steps of 10^-12, as stored lines. The lent output holds the text and then zeros; on a refusal, zeros.

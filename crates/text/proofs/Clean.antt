@@ -5,7 +5,7 @@ use mathlib.Core.List.{List, ◌∷◌}
 use mathlib.Core.Path.{◌≡◌, sym, ap, ◌∙◌}
 use native.Mathlib.Numerals.{add-one}
 use native.Mathlib.Omega.{arith}
-use borrow.Author.Tests.{eq-eqb, ne_eqb, lt-ltb, le-ltb}
+use borrow.Author.Tests.{lt-ltb, le-ltb, eq-eqb, ne_eqb}
 use lib.Dec.{eqb, ltb, leb-suc-suc}
 use lib.ListN.{length, get_or, take, drop, drop_of_length-le}
 use lib.Seq.{drop-cons}
@@ -27,14 +27,6 @@ cut-is text at l clean p q = rw (p, q)
 
 -- ---- control bytes
 module _ (b : ℕ) where
-  pub control-delete : b ≡ 127 → true ≡ is_control b
-  unfolding is_control
-  control-delete e = rw e
-
-  pub control-tab : b ≡ 9 → false ≡ is_control b
-  unfolding is_control
-  control-tab e = rw e
-
   pub control-other : (b ≡ 127 → ⊥) → (b ≡ 9 → ⊥) → ltb b 32 ≡ is_control b
   unfolding is_control
   control-other n m = rw (ne_eqb b 127 n, ne_eqb b 9 m, and-true, or-false) (leb-suc-suc b 31)

@@ -4,9 +4,10 @@ use mathlib.Core.Bool.{Bool, true, false, cond, not, and-false}
 use mathlib.Core.List.{List, [], ◌∷◌}
 use mathlib.Core.Path.{◌≡◌, refl, sym, ap, ◌∙◌}
 use borrow.Author.Tests.{eq-eqb, ne_eqb, lt-ltb, le-ltb, not-true}
+use Rattle.std.specs.List.{list_any}
 use lib.ListN.{length, get_or, drop, drop_of_length-le}
 use lib.Seq.{drop-cons}
-use Rattle.text.specs.Marks.{is_blank, mark_of, is_comment, any_control, breaks_line}
+use Rattle.text.specs.Marks.{is_blank, mark_of, is_comment, is_control, any_control, breaks_line}
 use Rattle.text.specs.Blanks.{blank_len, skipped}
 use Rattle.text.specs.declared.Mark.{Mark}
 use Rattle.text.specs.declared.Mark.TheVariants.{Blank, Comment, Section, Plain}
@@ -49,6 +50,11 @@ module _ (line : List ℕ) (first : ℕ) (p : first ≡ skipped line 0) where
       unfolding mark_of
       mark-plain m = sym (there ∙ rw (here, solid, ne_eqb _ 35 n, ne_eqb _ 91 m))
 
+pub any_list : (s : List ℕ) → list_any is_control s ≡ any_control s
+unfolding any_control
+any_list [] = refl
+any_list (b ∷ s) = rw (any_list s)
+
 module _ (line : List ℕ) where
   pub breaks-long : 1024 < length line → true ≡ breaks_line line
   unfolding breaks_line
@@ -61,10 +67,6 @@ module _ (line : List ℕ) where
     breaks-clean clean e f = rw (le-ltb 1024 (length line) h, not-true (any_control line) (sym e ∙ f), and-false)
 
     module _ (m : Mark) (e : m ≡ mark_of line) where
-      pub breaks-comment : m ≡ Comment → false ≡ breaks_line line
-      unfolding breaks_line is_comment
-      breaks-comment f = rw (le-ltb 1024 (length line) h, ← e, f)
-
       pub breaks-other : (k : Mark) → m ≡ k → is_comment k ≡ false → any_control line ≡ breaks_line line
       unfolding breaks_line
       breaks-other k f n = rw (le-ltb 1024 (length line) h, ← e, f, n)

@@ -1,5 +1,5 @@
 -- What a turn of a loop does: the definitions at `drop i text`, one byte at a time. Assumes nothing.
-use Prim.Native.Nat.{ℕ, suc, ◌+◌, ◌-◌, ◌≤◌, ◌<◌}
+use Prim.Native.Nat.{ℕ, suc, ◌+◌, ◌-◌, ◌≤◌, ◌<◌, max}
 use mathlib.Core.Bool.{true, false, ◌&&◌, and-false, true≢false}
 use mathlib.Core.List.{List, [], ◌∷◌}
 use mathlib.Core.Logic.{◌⊎◌, inl, inr}
@@ -12,9 +12,18 @@ use lib.Dec.{eqb}
 use lib.ListN.{length, get_or, drop, drop_of_length-le}
 use lib.Seq.{drop-cons}
 use Rattle.text.specs.Lines.{starts_lf, bare_len, pass_len, line_at}
-use Rattle.text.specs.Marks.{is_blank, is_control, any_control}
+use Rattle.text.specs.Marks.{is_blank}
 use Rattle.text.specs.Blanks.{blank_len, skipped}
 use Rattle.text.specs.declared.Line.{Line}
+use Rattle.text.proofs.Cases.{lt-or-ge}
+
+-- ---- where a walk from `at` on ends that met nothing: at the end of the text, or at once, if that is before `at`
+pub at-end : {A : Type 0} (F G : ℕ → A) {n at i e : ℕ} → ((k : ℕ) → n ≤ k → G k ≡ F k) → F i ≡ F at → n ≤ i → (at ≤ n → i ≤ n) → e ≡ max n at → G e ≡ F at
+at-end F G {n} {at} {i} {e} ends same late inside is = go (lt-or-ge at n)
+  where
+    go : (at < n) ⊎ (n ≤ at) → G e ≡ F at
+    go (inl h) = let p : e ≡ i = omega arith in rw p (ends i late ∙ same)
+    go (inr h) = let p : e ≡ at = omega arith in rw p (ends at h)
 
 -- ---- lines
 -- a CR before an LF
@@ -97,8 +106,8 @@ module _ {text : List ℕ} {at i : ℕ} where
   sought-on (inl e) f = ap (line_at text) e
   sought-on (inr p) f = passed_on p (rw (f, and-false))
 
-  pub sought-end : Sought text at i → length text ≤ i → ◌≡◌ {A = Line} (record { stop = i; next = i }) (line_at text at)
-  sought-end s h = line-none text i h ∙ sought-on s (feed-none text i h)
+  pub sought-end : Sought text at i → length text ≤ i → line_at text i ≡ line_at text at
+  sought-end s h = sought-on s (feed-none text i h)
 
   module _ (s : Sought text at i) (h : i < length text) where
     pub sought-turn : (get_or text i 0 ≡ 10 → ⊥) → Sought text at (i + 1)
@@ -128,15 +137,11 @@ module _ {text : List ℕ} {at i : ℕ} where
               let c : i + 1 ≡ p.last + 2 = let d = p.behind in omega arith in
               rw (b, c) (line-return text p.last p.inside p.plain (rw (← b) r) (rw (← p.behind) (feed-at text i h ∙ eq-eqb _ _ e)) ∙ p.same)
 
--- ---- blanks, and bytes that no line may hold
+-- ---- blanks
 module _ (line : List ℕ) (i : ℕ) where
   pub skip-none : length line ≤ i → i ≡ skipped line i
   unfolding skipped blank_len
   skip-none h = rw (drop_of_length-le line h, add-zero)
-
-  pub control-none : length line ≤ i → any_control (drop i line) ≡ false
-  unfolding any_control
-  control-none h = rw (drop_of_length-le line h)
 
   module _ (h : i < length line) where
     pub skip_stop : is_blank (get_or line i 0) ≡ false → i ≡ skipped line i
@@ -150,11 +155,3 @@ module _ (line : List ℕ) (i : ℕ) where
     pub skip-more : is_blank (get_or line i 0) ≡ true → skipped line (i + 1) ≡ skipped line i
     unfolding skipped
     skip-more e = let b = blank-more e in omega arith
-
-    pub control-here : is_control (get_or line i 0) ≡ true → any_control (drop i line) ≡ true
-    unfolding any_control
-    control-here e = rw (drop-cons line i 0, e)
-
-    pub control-more : is_control (get_or line i 0) ≡ false → any_control (drop i line) ≡ any_control (drop (i + 1) line)
-    unfolding any_control
-    control-more e = rw (add-one i, drop-cons line i 0, e)

@@ -1,14 +1,13 @@
--- `same_bytes` decides whether two texts are equal; what a turn of the comparison does; and how large a word's place can be. Assumes nothing.
-use Prim.Native.Nat.{ℕ, suc, ◌+◌, ◌≤◌, ◌<◌}
-use mathlib.Core.Bool.{Bool, true, false, cond, ◌&&◌, and-false, true≢false}
+-- `same_bytes` decides whether two texts are equal; so does `==` on slices; and how large a word's place can be. Assumes nothing.
+use Prim.Native.Nat.{ℕ, suc, ◌+◌, ◌≤◌}
+use mathlib.Core.Bool.{Bool, true, false, cond, ◌&&◌, true≢false}
 use mathlib.Core.List.{List, [], ◌∷◌}
 use mathlib.Core.Path.{◌≡◌, refl, sym, ap, ◌∙◌}
-use native.Mathlib.Numerals.{add-one}
 use native.Mathlib.Omega.{arith}
-use borrow.Author.Tests.{eq-eqb, ne_eqb, eqb-true}
+use borrow.Author.Tests.{eq-eqb, eqb-true}
 use lib.Dec.{eqb}
-use lib.ListN.{length, get_or, drop, drop_of_length-le}
-use lib.Seq.{drop-cons}
+use Rattle.std.specs.Str.{bytes_eq}
+use lib.ListN.{length}
 use Rattle.text.specs.Words.{same_bytes, place_from, place_of}
 
 -- ---- the law
@@ -31,27 +30,13 @@ same_true (c ∷ s) (d ∷ t) e = go (eqb c d) refl (same_true s t) e
 pub same_false : (a b : List ℕ) → same_bytes a b ≡ false → a ≡ b → ⊥
 same_false a b e p = true≢false (sym (same_refl a) ∙ ap (same_bytes a) p ∙ e)
 
--- ---- one byte at a time
-pub same-unequal : (a b : List ℕ) → (length a ≡ length b → ⊥) → same_bytes a b ≡ false
+-- ---- what `==` says of two slices
+pub same_eq : (a b : List ℕ) → bytes_eq a b ≡ same_bytes a b
 unfolding same_bytes
-same-unequal [] [] n = absurd (n refl)
-same-unequal [] (d ∷ t) n = refl
-same-unequal (c ∷ s) [] n = refl
-same-unequal (c ∷ s) (d ∷ t) n = rw (same-unequal s t (λ e. n (ap suc e)), and-false)
-
-module _ (a b : List ℕ) (i : ℕ) where
-  pub same_end : length a ≤ i → length b ≤ i → same_bytes (drop i a) (drop i b) ≡ true
-  unfolding same_bytes
-  same_end h g = rw (drop_of_length-le a h, drop_of_length-le b g)
-
-  module _ (h : i < length a) (g : i < length b) where
-    pub same-other : (get_or a i 0 ≡ get_or b i 0 → ⊥) → same_bytes (drop i a) (drop i b) ≡ false
-    unfolding same_bytes
-    same-other e = rw (drop-cons a i 0, drop-cons b i 0, ne_eqb _ _ e)
-
-    pub same_more : get_or a i 0 ≡ get_or b i 0 → same_bytes (drop i a) (drop i b) ≡ same_bytes (drop (i + 1) a) (drop (i + 1) b)
-    unfolding same_bytes
-    same_more e = rw (add-one i, drop-cons a i 0, drop-cons b i 0, eq-eqb _ _ e)
+same_eq [] [] = refl
+same_eq [] (d ∷ t) = refl
+same_eq (c ∷ s) [] = refl
+same_eq (c ∷ s) (d ∷ t) = rw (same_eq s t)
 
 -- ---- a place among words is at most their number
 place-most : (n : ℕ) (vs : List (List ℕ)) (w : List ℕ) → place_from n vs w ≤ n + length vs

@@ -8,6 +8,9 @@ ghost use Rattle.text.specs.Marks.{is_blank, mark_of, is_control, any_control, b
 ghost use Rattle.text.specs.Blanks.{skipped};
 ghost use Rattle.text.specs.Words.{same_bytes};
 
+// The most bytes that a line may have.
+pub const LONGEST: usize = 1024;
+
 // A line that starts at a place: where its text stops, and where the next line starts.
 #[derive(Clone, Copy)]
 pub struct Line {
@@ -24,7 +27,7 @@ pub struct Piece {
 }
 
 // What a line is by its first nonblank byte.
-#[derive(Clone, Copy)]
+#[derive(Clone, Copy, PartialEq, Eq)]
 pub enum Mark {
     Blank,
     Comment,
@@ -36,94 +39,66 @@ pub enum Mark {
 pub fn next_line(text: &[u8], at: usize) -> Line
     ensures { result ≡ line_at text.now at }
 {
-    let mut i = at;
-    while i < text.len() {
-        if text[i] == 10 {
-            if at < i {
-                if text[i - 1] == 13 {
-                    return Line {
-                        stop: i - 1,
-                        next: i + 1,
-                    };
-                }
-            }
-            return Line {
-                stop: i,
-                next: i + 1,
+    for i in at..text.len() {
+        if text[i] == b'\n' {
+            let stop = if at < i && text[i - 1] == b'\r' {
+                i - 1
+            } else {
+                i
             };
+            return Line { stop, next: i + 1 };
         }
-        i += 1;
     }
-    Line { stop: i, next: i }
+    let end = text.len().max(at);
+    Line {
+        stop: end,
+        next: end,
+    }
 }
 
 // Space or tab.
 pub fn is_blank(b: u8) -> bool
     ensures { result ≡ is_blank b }
 {
-    if b == 32 {
-        return true;
-    }
-    b == 9
+    b == b' ' || b == b'\t'
 }
 
 // The first place from `at` on that is not blank, or the end.
 pub fn skip(line: &[u8], at: usize) -> usize
     ensures { result ≡ skipped line.now at }
 {
-    let mut i = at;
-    while i < line.len() {
+    for i in at..line.len() {
         if !is_blank(line[i]) {
             return i;
         }
-        i += 1;
     }
-    i
+    line.len().max(at)
 }
 
 // What kind of line this is.
 pub fn mark_of(line: &[u8]) -> Mark
     ensures { result ≡ mark_of line.now }
 {
-    let first = skip(line, 0);
-    if line.len() <= first {
-        return Mark::Blank;
+    match line.get(skip(line, 0)) {
+        None => Mark::Blank,
+        Some(b'#') => Mark::Comment,
+        Some(b'[') => Mark::Section,
+        Some(_) => Mark::Plain,
     }
-    let b = line[first];
-    if b == 35 {
-        return Mark::Comment;
-    }
-    if b == 91 {
-        return Mark::Section;
-    }
-    Mark::Plain
 }
 
 // A byte that no line may hold outside a comment.
 fn is_control(b: u8) -> bool
     ensures { result ≡ is_control b }
 {
-    if b == 127 {
-        return true;
-    }
-    if b == 9 {
-        return false;
-    }
-    b < 32
+    (b < 32 && b != b'\t') || b == 127
 }
 
 // Does the line hold such a byte?
 fn has_control(line: &[u8]) -> bool
     ensures { result ≡ any_control line.now }
 {
-    let mut i = 0;
-    while i < line.len() {
-        if is_control(line[i]) {
-            return true;
-        }
-        i += 1;
-    }
-    false
+    line.iter().any(|b| is_control(*b))
 }
 
 // The line that starts at a control byte: it is clean if that byte is of its end.
@@ -144,22 +119,15 @@ fn cut_control(text: &[u8], at: usize) -> Piece
 pub fn cut_line(text: &[u8], at: usize) -> Piece
     ensures { result ≡ cut_at text.now at }
 {
-    let mut i = at;
-    while i < text.len() {
-        let b = text[i];
-        if b < 32 {
-            if b != 9 {
-                return cut_control(text, i);
-            }
-        }
-        if b == 127 {
+    for i in at..text.len() {
+        if is_control(text[i]) {
             return cut_control(text, i);
         }
-        i += 1;
     }
+    let end = text.len().max(at);
     Piece {
-        stop: i,
-        next: i,
+        stop: end,
+        next: end,
         clean: true,
     }
 }
@@ -168,30 +136,12 @@ pub fn cut_line(text: &[u8], at: usize) -> Piece
 pub fn breaks_line(line: &[u8]) -> bool
     ensures { result ≡ breaks_line line.now }
 {
-    if 1024 < line.len() {
-        return true;
-    }
-    match mark_of(line) {
-        Mark::Comment => false,
-        Mark::Blank => has_control(line),
-        Mark::Section => has_control(line),
-        Mark::Plain => has_control(line),
-    }
+    LONGEST < line.len() || (mark_of(line) != Mark::Comment && has_control(line))
 }
 
 // Is this part the word, byte for byte?
 pub fn same(part: &[u8], word: &[u8]) -> bool
     ensures { result ≡ same_bytes part.now word.now }
 {
-    if part.len() != word.len() {
-        return false;
-    }
-    let mut i = 0;
-    while i < part.len() {
-        if part[i] != word[i] {
-            return false;
-        }
-        i += 1;
-    }
-    true
+    part == word
 }

@@ -1,5 +1,5 @@
 -- `decimals::gather` meets its contract. The loop's invariant: gathering goes on from i to the same answer. Assumes nothing.
-use Prim.Native.Nat.{ℕ, ◌-◌, ◌≤◌, ◌<◌}
+use Prim.Native.Nat.{ℕ, ◌≤◌, ◌<◌}
 use mathlib.Core.List.{List}
 use mathlib.Core.Path.{◌≡◌}
 use lib.ListN.{length, drop}
@@ -15,6 +15,3 @@ pub record State (v z : ℕ) (s : List ℕ) (at w k i : ℕ) : Type 0 where
 
 abbrev pub invariant-loop-i : goal.invariant-loop-i
 invariant-loop-i l = State l.v l.z l.s l.at l.w l.k l.i
-
-abbrev pub decreases-loop-i : goal.decreases-loop-i
-decreases-loop-i l = length l.s - l.i

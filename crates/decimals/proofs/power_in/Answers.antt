@@ -1,10 +1,12 @@
--- `decimals::power_in` meets its contract: what stands behind the e and the sign is (from (from c.args.s.now 1) c.sign_of-g.result.len), and read. Assumes nothing.
+-- `decimals::power_in` meets its contract: what stands behind the e and the sign is cut off and read. Assumes nothing.
 use Rattle.std.proofs.Common.{None, Option, Some}
 use Prim.Native.Nat.{ℕ, ◌+◌, ◌-◌, ◌≤◌, ◌<◌}
 use mathlib.Core.List.{List}
 use mathlib.Core.Bool.{Bool, true, false}
 use mathlib.Core.Path.{◌≡◌, sym, ◌∙◌, ap}
 use native.Mathlib.Omega.{arith}
+use borrow.Author.Tests.{eqb-true, eqb-false}
+use lib.Dec.{eqb}
 use lib.ListN.{length, take, drop}
 use Rattle.numeral.specs.Integer.{integer_of}
 use Rattle.decimals.specs.Inside.{sign_of, biased, power_of}
@@ -13,7 +15,6 @@ use Rattle.numeral.proofs.Integer.{integer-inv}
 use Rattle.numeral.proofs.Parts.{tail-part}
 use Rattle.decimals.proofs.Parts.{sign_fits}
 use Rattle.decimals.proofs.Powers.{power_at, power-none, power-some, short-long, short-value, short-bad}
-use Rattle.decimals.proofs.power_in.Goals.{After-d-1, After-sign_of-g, In-Some, In-Some-2}
 use Rattle.decimals.proofs.power_in.Goals as goal
 
 -- the part behind a place
@@ -27,6 +28,9 @@ parts s g h e =
     rw (ap (λ (x : Sign). x.minus) e)
     (power-some s (from s 1) (from (from s 1) g.len) h (tail-part s 1)
     (tail-part (from s 1) g.len ∙ ap (λ (x : Sign). drop x.len (from s 1)) e))
+
+some : (s : List ℕ) → eqb (length s) 0 ≡ false → 0 < length s
+some s e = let n = eqb-false (length s) 0 e in omega arith
 
 -- the returns, by d
 long : (s d : List ℕ) (negative : Bool) → power_at negative d ≡ power_of s → 2 < length d → None ≡ power_of s
@@ -49,47 +53,37 @@ plus : (s : List ℕ) (negative : Bool) (n : ℕ) → negative ≡ false → Som
 unfolding biased
 plus s negative n t e = rw t at e
 
-pub returns-then-s-eq0 : goal.returns-then-s-eq0
-returns-then-s-eq0 c = power-none _ c.if-s-eq0.true
+pub returns-then-is_empty : goal.returns-then-is_empty
+returns-then-is_empty c = power-none _ (eqb-true _ _ (sym c.is_empty.ensures ∙ c.if-is_empty.true))
 
 pub slice_bounds-d-count : goal.slice_bounds-d-count
-slice_bounds-d-count c =
-    let the-sign : c.sign_of-g.result.len ≤ length (from c.args.s.now 1) = sign_fits _ _ c.sign_of-g.ensures in
-    the-sign
+slice_bounds-d-count c = sign_fits (from c.args.s.now 1) _ c.sign_of-sign.ensures
 
 pub slice_bounds-d-start : goal.slice_bounds-d-start
-slice_bounds-d-start c =
-    let the-sign : c.sign_of-g.result.len ≤ length (from c.args.s.now 1) = sign_fits _ _ c.sign_of-g.ensures in
-    the-sign
+slice_bounds-d-start c = sign_fits (from c.args.s.now 1) _ c.sign_of-sign.ensures
 
 pub returns-then-d-gt2 : goal.returns-then-d-gt2
 returns-then-d-gt2 c =
-    let the_parts : power_at c.sign_of-g.result.minus (from (from c.args.s.now 1) c.sign_of-g.result.len) ≡ power_of c.args.s.now = parts _ _ (omega arith) c.sign_of-g.ensures in
-    long _ (from (from c.args.s.now 1) c.sign_of-g.result.len) c.sign_of-g.result.minus the_parts c.if-d-gt2.true
+    let g = c.sign_of-sign.result in
+    long _ (from (from c.args.s.now 1) g.len) g.minus (parts _ g (some _ (sym c.is_empty.ensures ∙ c.if-is_empty.false)) c.sign_of-sign.ensures) c.if-d-gt2.true
+
+pub returns-in_err-n : goal.returns-in_err-n
+returns-in_err-n c =
+    let g = c.sign_of-sign.result in
+    c.from_residual.ensures ∙ bad _ (from (from c.args.s.now 1) g.len) g.minus _ (parts _ g (some _ (sym c.is_empty.ensures ∙ c.if-is_empty.false)) c.sign_of-sign.ensures) c.read_integer.ensures c.in_err-n.was
 
 pub overflow_sub-result : goal.overflow_sub-result
-overflow_sub-result c =
-    let small : c.in-Some.n ≤ 99 = (integer-inv 0 99 _ _ (sym c.read_integer.ensures ∙ c.in-Some.is)).most in
-    let h = small in omega arith
-
-pub returns-then-negative : goal.returns-then-negative
-returns-then-negative c =
-    let the_parts : power_at c.sign_of-g.result.minus (from (from c.args.s.now 1) c.sign_of-g.result.len) ≡ power_of c.args.s.now = parts _ _ (omega arith) c.sign_of-g.ensures in
-    let the_value : Some (biased c.sign_of-g.result.minus c.in-Some.n) ≡ power_of c.args.s.now = good _ _ _ _ _ the_parts c.if-d-gt2.false c.read_integer.ensures c.in-Some.is in
-    minus _ _ _ c.if-negative.true the_value
+overflow_sub-result c = omega (arith, (integer-inv 0 99 _ _ (sym c.read_integer.ensures ∙ c.in_ok-n.was)).most)
 
 pub overflow_add-result : goal.overflow_add-result
-overflow_add-result c =
-    let small : c.in-Some.n ≤ 99 = (integer-inv 0 99 _ _ (sym c.read_integer.ensures ∙ c.in-Some.is)).most in
-    let h = small in omega arith
+overflow_add-result c = omega (arith, (integer-inv 0 99 _ _ (sym c.read_integer.ensures ∙ c.in_ok-n.was)).most)
 
-pub returns-else-negative : goal.returns-else-negative
-returns-else-negative c =
-    let the_parts : power_at c.sign_of-g.result.minus (from (from c.args.s.now 1) c.sign_of-g.result.len) ≡ power_of c.args.s.now = parts _ _ (omega arith) c.sign_of-g.ensures in
-    let the_value : Some (biased c.sign_of-g.result.minus c.in-Some.n) ≡ power_of c.args.s.now = good _ _ _ _ _ the_parts c.if-d-gt2.false c.read_integer.ensures c.in-Some.is in
-    plus _ _ _ c.if-negative.false the_value
+pub returns-then-sign : goal.returns-then-sign
+returns-then-sign c =
+    let g = c.sign_of-sign.result in
+    minus _ g.minus _ c.if-sign.true (good _ (from (from c.args.s.now 1) g.len) g.minus _ _ (parts _ g (some _ (sym c.is_empty.ensures ∙ c.if-is_empty.false)) c.sign_of-sign.ensures) c.if-d-gt2.false c.read_integer.ensures c.in_ok-n.was)
 
-pub returns-in-None : goal.returns-in-None
-returns-in-None c =
-    let the_parts : power_at c.sign_of-g.result.minus (from (from c.args.s.now 1) c.sign_of-g.result.len) ≡ power_of c.args.s.now = parts _ _ (omega arith) c.sign_of-g.ensures in
-    bad _ _ _ _ the_parts c.read_integer.ensures c.in-None.is
+pub returns-else-sign : goal.returns-else-sign
+returns-else-sign c =
+    let g = c.sign_of-sign.result in
+    plus _ g.minus _ c.if-sign.false (good _ (from (from c.args.s.now 1) g.len) g.minus _ _ (parts _ g (some _ (sym c.is_empty.ensures ∙ c.if-is_empty.false)) c.sign_of-sign.ensures) c.if-d-gt2.false c.read_integer.ensures c.in_ok-n.was)

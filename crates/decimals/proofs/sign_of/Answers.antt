@@ -1,11 +1,6 @@
 -- `decimals::sign_of` meets its contract: by the first byte. Assumes nothing.
-use Prim.Native.Nat.{ℕ, ◌<◌}
-use mathlib.Core.List.{List}
-use mathlib.Core.Bool.{Bool, true, false}
-use mathlib.Core.Path.{◌≡◌, ◌∙◌, sym}
-use native.Mathlib.Omega.{arith}
-use borrow.Author.Tests.{eq-eqb, ne_eqb}
-use lib.ListN.{length, get_or}
+use Rattle.std.proofs.Common.{ℕ, ◌<◌, ◌≡◌, ◌∙◌, sym, List, Bool, true, false, length, get_or, arith}
+use borrow.Author.Tests.{eq-eqb, ne_eqb, ltb-false}
 use Rattle.numeral.specs.Digits.{is_minus, sign_len}
 use Rattle.numeral.proofs.Digits.{minus-none, minus-some, sign-none, sign-minus, sign-plus, sign-other}
 use Rattle.decimals.specs.Inside.{sign_of}
@@ -21,14 +16,26 @@ minus-yes s h e = sym (eq-eqb (get_or s 0 0) 45 e) ∙ minus-some s h
 minus-no : (s : List ℕ) → 0 < length s → (get_or s 0 0 ≡ 45 → ⊥) → false ≡ is_minus s
 minus-no s h e = sym (ne_eqb (get_or s 0 0) 45 e) ∙ minus-some s h
 
-pub returns-then-s-eq0 : goal.returns-then-s-eq0
-returns-then-s-eq0 c = both _ _ _ (minus-none _ c.if-s-eq0.true) (sign-none _ c.if-s-eq0.true)
+pub returns-in-Some-eq45 : goal.returns-in-Some-eq45
+returns-in-Some-eq45 c =
+    let h = c.in-Some-eq45.ensures.item.3 in
+    let e = sym (h.1 0) ∙ c.in-Some-eq45.field-0-test in
+    both _ _ _ (minus-yes _ h.0 e) (sign-minus _ h.0 e)
 
-pub returns-then-b-eq45 : goal.returns-then-b-eq45
-returns-then-b-eq45 c = both _ _ _ (minus-yes _ (omega arith) c.if-b-eq45.true) (sign-minus _ (omega arith) c.if-b-eq45.true)
+pub returns-in-Some-eq43 : goal.returns-in-Some-eq43
+returns-in-Some-eq43 c =
+    let h = c.in-Some-eq43.ensures.item.3 in
+    let e = sym (h.1 0) ∙ c.in-Some-eq43.field-0-test in
+    both _ _ _ (minus-no _ h.0 (omega arith)) (sign-plus _ h.0 (omega arith) e)
 
-pub returns-then-b-eq43 : goal.returns-then-b-eq43
-returns-then-b-eq43 c = both _ _ _ (minus-no _ (omega arith) c.if-b-eq45.false) (sign-plus _ (omega arith) c.if-b-eq45.false c.if-b-eq43.true)
+pub returns-in-Some : goal.returns-in-Some
+returns-in-Some c =
+    let h = c.in-Some.ensures.item.3 in
+    let e = h.1 0 in
+    let n = rw e at c.in-Some.field-0-test.0.1 in
+    both _ _ _ (minus-no _ h.0 n) (sign-other _ n (rw e at c.in-Some.field-0-test.1))
 
-pub returns : goal.returns
-returns c = both _ _ _ (minus-no _ (omega arith) c.if-b-eq45.false) (sign-other _ c.if-b-eq45.false c.if-b-eq43.false)
+pub returns-in-None : goal.returns-in-None
+returns-in-None c =
+    let e = ltb-false _ _ (sym c.in-None.ensures.item.0) in
+    both _ _ _ (minus-none _ (omega arith)) (sign-none _ (omega arith))

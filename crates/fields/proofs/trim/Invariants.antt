@@ -1,12 +1,7 @@
 -- `fields::trim` meets its contract. The loop's invariant: with what is left from i on, the text ends where that from `start` on does. Assumes nothing.
-use Prim.Native.Nat.{◌-◌}
 use mathlib.Core.Path.{◌≡◌}
-use lib.ListN.{length}
 use Rattle.fields.proofs.Places.{body_end}
 use Rattle.fields.proofs.trim.Given as goal
 
 abbrev pub invariant-loop-i : goal.invariant-loop-i
 invariant-loop-i l = body_end l.line l.stop l.i ≡ body_end l.line l.start l.start
-
-abbrev pub decreases-loop-i : goal.decreases-loop-i
-decreases-loop-i l = length l.line - l.i

@@ -1,11 +1,14 @@
 -- `heads::flag_value` meets its contract: a size that an i64 holds is not cut. Assumes nothing.
-use mathlib.Core.Path.{refl, sym, ◌∙◌}
-use Rattle.signed.proofs.Machine.{rd-at}
-use Rattle.numeral.proofs.Outcomes.{as-value, as-bad, held-integer}
+use Rattle.std.proofs.Common.{◌∙◌, sym, pos, arith}
+use Rattle.signed.proofs.Machine.{rd-is, sfits-abs}
+use Rattle.heads.proofs.Names.{flag-none, flag-some, flag-small}
 use Rattle.heads.proofs.flag_value.Goals as goal
 
-pub returns-in-Some : goal.returns-in-Some
-returns-in-Some c = as-value _ _ _ _ (sym c.read_integer.ensures ∙ c.in-Some.is) (held-integer _ _ _ _ refl) (rd-at _ c.with_sign.type_inv ∙ c.with_sign.ensures)
+pub returns-in_err-n : goal.returns-in_err-n
+returns-in_err-n c = c.from_residual.ensures ∙ flag-none _ _ (sym c.read_integer.ensures ∙ c.in_err-n.was)
 
-pub returns-in-None : goal.returns-in-None
-returns-in-None c = as-bad _ _ (sym c.read_integer.ensures ∙ c.in-None.is)
+pub overflow_cast-result : goal.overflow_cast-result
+overflow_cast-result c = sfits-abs (pos c.in_ok-n.n) (omega (arith, flag-small _ _ _ (sym c.read_integer.ensures ∙ c.in_ok-n.was)))
+
+pub returns : goal.returns
+returns c = flag-some _ _ _ (sym c.read_integer.ensures ∙ c.in_ok-n.was) (rd-is (sfits-abs (pos c.in_ok-n.n) (omega (arith, flag-small _ _ _ (sym c.read_integer.ensures ∙ c.in_ok-n.was)))))

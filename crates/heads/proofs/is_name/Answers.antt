@@ -1,25 +1,20 @@
-use mathlib.Core.Path.{sym, ◌∙◌}
-use native.Mathlib.Omega.{arith}
-use Rattle.heads.proofs.Names.{name-empty, name-long, name-by-bytes, bytes-none, bytes-other, bytes-more}
+-- `heads::is_name` meets its contract. Assumes nothing.
+use Rattle.std.proofs.Common.{arith, rules, tests}
+use Rattle.std.proofs.lemmas.Grind.{common_steps}
+use Rattle.std.proofs.lemmas.Bool.Decides.{nat_tests}
+use Rattle.std.proofs.lemmas.Iterator.{YieldsList-from_slice}
+use Rattle.std.proofs.lemmas.Iterator.Search.{all_from_yields_List}
+use Rattle.heads.specs.Heads.{is_name_byte, is_name}
+use Rattle.heads.proofs.Names.{bytes_list}
 use Rattle.heads.proofs.is_name.Goals as goal
 
-pub returns-then-name-eq0 : goal.returns-then-name-eq0
-returns-then-name-eq0 c = name-empty _ c.if-name-eq0.true
+pub returns-then-name-le-LONGEST_NAME : goal.returns-then-name-le-LONGEST_NAME
+unfolding is_name
+returns-then-name-le-LONGEST_NAME c =
+    let e = all_from_yields_List is_name_byte _ _ c.all.result c.all.ensures.ran (YieldsList-from_slice c.args.name.now (cc)) (λ x b q k. search (rules, tests)) in
+    let l = bytes_list c.args.name.now in
+    grind (arith, common_steps, nat_tests)
 
-pub returns-then-name-gt32 : goal.returns-then-name-gt32
-returns-then-name-gt32 c = name-long _ c.if-name-gt32.true
-
-pub loop-i-init : goal.loop-i-init
-loop-i-init c = sym (name-by-bytes _ (omega arith) (omega arith))
-
-pub returns-then-not-is_name_byte : goal.returns-then-not-is_name_byte
-returns-then-not-is_name_byte c =
-    sym (c.loop-i.invariant ∙ bytes-other c.args.name.now c.loop-i.i (omega arith) (sym c.is_name_byte.ensures ∙ c.if-not-is_name_byte.true))
-
-pub loop-i-preserved : goal.loop-i-preserved
-loop-i-preserved c =
-    c.loop-i.invariant ∙ bytes-more c.args.name.now c.loop-i.i (omega arith) (sym c.is_name_byte.ensures ∙ c.if-not-is_name_byte.false)
-
-pub returns : goal.returns
-returns c =
-    sym (c.loop-i.invariant ∙ bytes-none c.args.name.now c.loop-i.i (omega arith))
+pub returns-else-name-le-LONGEST_NAME : goal.returns-else-name-le-LONGEST_NAME
+unfolding is_name
+returns-else-name-le-LONGEST_NAME c = grind (arith, common_steps, nat_tests)

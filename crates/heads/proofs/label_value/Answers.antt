@@ -1,26 +1,47 @@
 -- `heads::label_value` meets its contract. Assumes nothing.
-use mathlib.Core.Path.{◌∙◌}
-use native.Mathlib.Omega.{arith}
-use Rattle.heads.proofs.Forms.{value-unknown, value-counter, value-increment, value-flag, value-beyond, value-early, value-once}
+use Rattle.std.proofs.Common.{◌≡◌, refl, arith}
+use Rattle.std.proofs.lemmas.Grind.{common_steps}
+use Rattle.std.proofs.lemmas.Bool.Decides.{nat_tests}
+use denote.Enum.Bare.{sameb}
+use Rattle.shape.specs.contracts.Edition.{the_type}
+use Rattle.shape.specs.declared.Edition.{Edition}
+use Rattle.shape.specs.declared.Edition.TheVariants.{V13, V14}
+use Rattle.heads.specs.Heads.{is_v14, set_value, increment_value, label_value}
 use Rattle.heads.proofs.label_value.Goals as goal
 
-pub returns-then-label-eq0 : goal.returns-then-label-eq0
-returns-then-label-eq0 c = value-unknown _ _ _ _ c.if-label-eq0.true
+v14 : (e : Edition) → sameb the_type e V14 ≡ is_v14 e
+unfolding is_v14
+v14 V13 = refl
+v14 V14 = refl
 
-pub returns-then-label-lt10 : goal.returns-then-label-lt10
-returns-then-label-lt10 c = c.read_counter.ensures ∙ value-counter _ _ _ _ (omega arith) (omega arith)
+pub returns-in-13 : goal.returns-in-13
+unfolding label_value set_value increment_value
+returns-in-13 c = let e = v14 c.args.edition in grind (arith, common_steps, nat_tests)
 
-pub returns-then-increment : goal.returns-then-increment
-returns-then-increment c = value-increment _ _ _ _ (omega arith) c.if-increment.true
+pub returns-in-1-to-9 : goal.returns-in-1-to-9
+unfolding label_value set_value increment_value
+returns-in-1-to-9 c = let e = v14 c.args.edition in grind (arith, common_steps, nat_tests)
 
-pub returns-then-label-lt13 : goal.returns-then-label-lt13
-returns-then-label-lt13 c = c.flag_value.ensures ∙ value-flag _ _ _ _ (omega arith) c.if-increment.false (omega arith)
+pub returns-in-10-to-12 : goal.returns-in-10-to-12
+unfolding label_value set_value increment_value
+returns-in-10-to-12 c = let e = v14 c.args.edition in grind (arith, common_steps, nat_tests)
 
-pub returns-then-label-gt13 : goal.returns-then-label-gt13
-returns-then-label-gt13 c = value-beyond _ _ _ _ (omega arith) c.if-increment.false (omega arith)
+pub returns-in_default : goal.returns-in_default
+unfolding label_value set_value increment_value
+returns-in_default c = let e = v14 c.args.edition in grind (arith, common_steps, nat_tests)
 
-pub returns-in-V13 : goal.returns-in-V13
-returns-in-V13 c = value-early _ _ _ _ (omega arith) c.if-increment.false (omega arith) c.in-V13.is
+pub returns-in_default-2 : goal.returns-in_default-2
+unfolding label_value set_value increment_value
+returns-in_default-2 c = let e = v14 c.args.edition in grind (arith, common_steps, nat_tests)
 
-pub returns-in-V14 : goal.returns-in-V14
-returns-in-V14 c = c.flag_value-in-V14.ensures ∙ value-once _ _ _ _ (omega arith) c.if-increment.false (omega arith) c.in-V14.is
+pub returns-in_default-3 : goal.returns-in_default-3
+unfolding label_value set_value increment_value
+returns-in_default-3 c = let e = v14 c.args.edition in grind (arith, common_steps, nat_tests)
+
+pub returns-in_default-4 : goal.returns-in_default-4
+unfolding label_value set_value increment_value
+returns-in_default-4 c = let e = v14 c.args.edition in grind (arith, common_steps, nat_tests)
+
+pub returns-in_default-5 : goal.returns-in_default-5
+unfolding label_value set_value increment_value
+returns-in_default-5 c = let e = v14 c.args.edition in grind (arith, common_steps, nat_tests)

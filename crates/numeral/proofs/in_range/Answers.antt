@@ -1,12 +1,13 @@
--- `numeral::in_range` meets its contract: one test for each end of the range. Assumes nothing.
-use Rattle.numeral.proofs.Integer.{range-low, range-high, range-value}
+-- `numeral::in_range` meets its contract. Assumes nothing.
+use Rattle.std.proofs.Common.{◌∙◌}
+use borrow.Author.Tests.{lt-leb}
+use Rattle.numeral.proofs.Integer.{range-low, range-test}
+use Rattle.numeral.proofs.in_range.Goals.{then-low-n, else-low-n}
 use Rattle.numeral.proofs.in_range.Goals as goal
 
-pub returns-then-n-low : goal.returns-then-n-low
-returns-then-n-low c = range-low _ _ _ c.if-n-low.true
-
-pub returns-then-high-n : goal.returns-then-high-n
-returns-then-high-n c = range-high _ _ _ c.if-n-low.false c.if-high-n.true
-
 pub returns : goal.returns
-returns c = range-value _ _ _ c.if-n-low.false c.if-high-n.false
+returns c =
+    elim c.if-low-n.branch [
+      | then-low-n w ↦ c.then_some.ensures ∙ rw w.then_some-is (range-test _ _ _ w.if-low-n.true)
+      | else-low-n w ↦ c.then_some.ensures ∙ rw (w.then_some-is, lt-leb _ _ w.if-low-n.false) (range-low _ _ _ w.if-low-n.false)
+    ]

@@ -1,11 +1,8 @@
 -- `numeral::read_integer` meets its contract. The loop reads digits (`Reading`), and the range is asked at the end. Assumes nothing.
-use Prim.Native.Nat.{◌≤◌, ◌-◌}
+use Prim.Native.Nat.{◌≤◌}
 use lib.ListN.{length}
 use Rattle.numeral.proofs.Reading.{Reading}
 use Rattle.numeral.proofs.read_integer.Given as goal
 
-abbrev pub invariant-loop-i : goal.invariant-loop-i
-invariant-loop-i l = (1 ≤ length l.field) × (length l.field ≤ 10) × Reading l.field l.i l.v
-
-abbrev pub decreases-loop-i : goal.decreases-loop-i
-decreases-loop-i l = length l.field - l.i
+abbrev pub invariant-loop-b : goal.invariant-loop-b
+invariant-loop-b l = (1 ≤ length l.field) × (length l.field ≤ 10) × Reading l.field l.b-index l.v

@@ -1,6 +1,4 @@
 -- `numeral::round_down` meets its contract: one digit more is kept, and rounds. Assumes nothing.
-use native.Mathlib.Omega.{arith}
-use native.Mathlib.Nat.{div-le_self}
 use Rattle.numeral.proofs.Scaling.{power-some, nearest-far, nearest-is}
 use Rattle.numeral.proofs.round_down.Goals as goal
 
@@ -9,9 +7,6 @@ returns-then-k-gt19 c = nearest-far _ _ c.if-k-gt19.true c.requires.1
 
 pub nonzero_div-result : goal.nonzero_div-result
 nonzero_div-result c = power-some _ c.power_of_ten.ensures
-
-pub overflow_add-result : goal.overflow_add-result
-overflow_add-result c = omega (arith, div-le_self c.args.v c.power_of_ten.result, c.requires.1)
 
 pub returns : goal.returns
 returns c = nearest-is _ _ _ c.requires.0 c.power_of_ten.ensures

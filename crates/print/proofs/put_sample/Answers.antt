@@ -1,29 +1,23 @@
 -- `print::put_sample` meets its contract: no steps are 0, and others are written without their trailing zeros. Assumes nothing.
-use mathlib.Core.Path.{◌≡◌, ◌∙◌, ap, sym}
-use native.Mathlib.Omega.{arith}
-use lib.IntN.{nat_abs}
-use Rattle.signed.specs.Signed.{is_negative}
-use Rattle.signed.proofs.Machine.{rd-is, rd-at, size-most}
-use Rattle.decimals.proofs.Zeros.{strip-zeros}
+use Rattle.std.proofs.Common.{◌≡◌, ◌∙◌, ap, sym, nat_abs, arith}
+use Rattle.signed.proofs.Machine.{below-zero, rd-is, rd-at, size-most}
+use Rattle.decimals.proofs.Zeros.{strip-fewer}
 use Rattle.decimals.specs.declared.Stripped.{Stripped}
 use Rattle.print.proofs.Writing.{wrote_nothing, wrote-sample}
-use Rattle.print.proofs.put_sample.Goals.{After-size-size}
 use Rattle.print.proofs.put_sample.Goals as goal
 
 pub returns-then-size-eq0 : goal.returns-then-size-eq0
 returns-then-size-eq0 c =
-    let sized : c.size-size.result ≡ nat_abs c.args.steps = c.size-size.ensures ∙ ap nat_abs (rd-is c.ranges.steps) in
+    let sized : c.unsigned_abs-size.result ≡ nat_abs c.args.steps = c.unsigned_abs-size.ensures.value ∙ ap nat_abs (rd-is c.ranges.steps) in
     wrote_nothing _ (sym sized ∙ c.if-size-eq0.true) c.put_byte.ensures
 
 pub sample_power-requires : goal.sample_power-requires
 sample_power-requires c =
-    let sized : c.size-size.result ≡ nat_abs c.args.steps = c.size-size.ensures ∙ ap nat_abs (rd-is c.ranges.steps) in
-    let s = c.before.before.before.before in
-    omega (arith, strip-zeros s.size-size.result 0, ap (λ (t : Stripped). t.zeros) c.strip-t.ensures, sized, size-most s.args.steps s.ranges.steps.sfits)
+    let sized : c.unsigned_abs-size.result ≡ nat_abs c.args.steps = c.unsigned_abs-size.ensures.value ∙ ap nat_abs (rd-is c.ranges.steps) in
+    let n = c.unsigned_abs-size.result in
+    omega (arith, strip-fewer n 20 (omega arith) (omega (arith, sized, size-most c.args.steps c.ranges.steps.sfits)), ap (λ (t : Stripped). t.zeros) c.strip-v.ensures)
 
 pub returns : goal.returns
 returns c =
-    let sized : c.size-size.result ≡ nat_abs c.args.steps = c.size-size.ensures ∙ ap nat_abs (rd-is c.ranges.steps) in
-    let s = c.before.before.before.before.before.before.before.before.before.before in
-    wrote-sample _ _ _ _ _ sized c.if-size-eq0.false (c.is_negative.ensures ∙ ap is_negative (rd-is s.ranges.steps)) c.strip-t.ensures
-    (rd-at _ c.sample_power.type_inv ∙ c.sample_power.ensures) c.put_scaled.ensures
+    let sized : c.unsigned_abs-size.result ≡ nat_abs c.args.steps = c.unsigned_abs-size.ensures.value ∙ ap nat_abs (rd-is c.ranges.steps) in
+    wrote-sample _ _ _ _ _ sized c.if-size-eq0.false (below-zero c.ranges.steps) c.strip-v.ensures (rd-at _ c.sample_power.type_inv ∙ c.sample_power.ensures) c.put_scaled.ensures

@@ -1,9 +1,12 @@
 -- `sets::is_in` meets its contract. Assumes nothing.
-use Rattle.sets.proofs.Passing.{in-none, in_some}
+use Rattle.std.proofs.Common.{rules, tests}
+use Rattle.sets.specs.Sets.{is_in}
 use Rattle.sets.proofs.is_in.Goals as goal
 
 pub returns-then-parts-eq0 : goal.returns-then-parts-eq0
-returns-then-parts-eq0 c = in-none _ _ c.if-parts-eq0.true _
+unfolding is_in
+returns-then-parts-eq0 c = search (tests, rules)
 
-pub returns : goal.returns
-returns c = in_some _ _ c.if-parts-eq0.false _
+pub returns-else-parts-eq0 : goal.returns-else-parts-eq0
+unfolding is_in
+returns-else-parts-eq0 c = search (tests, rules)

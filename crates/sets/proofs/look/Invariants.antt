@@ -1,10 +1,6 @@
 -- `sets::look` meets its contract. The loop's invariant: what is left of the way meets what the whole meets (`Looking`). Assumes nothing.
-use Prim.Native.Nat.{◌-◌}
 use Rattle.sets.proofs.Ways.{Looking}
 use Rattle.sets.proofs.look.Given as goal
 
 abbrev pub invariant-loop-j : goal.invariant-loop-j
 invariant-loop-j l = Looking l.set l.key l.j
-
-abbrev pub decreases-loop-j : goal.decreases-loop-j
-decreases-loop-j l = 128 - l.j

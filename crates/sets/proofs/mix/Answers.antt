@@ -1,6 +1,6 @@
 -- `sets::mix` meets its contract. Assumes nothing.
+use Rattle.std.proofs.Common.{refl}
 use Rattle.sets.specs.Sets.{mixed}
-use mathlib.Core.Path.{refl}
 use Rattle.sets.proofs.mix.Goals as goal
 
 pub returns : goal.returns

@@ -1,4 +1,5 @@
 -- `shape::clean_item` meets its contract. By cases on the mark. Assumes nothing.
+use mathlib.Core.Logic.{⊎_elim}
 use mathlib.Core.Path.{sym, ◌∙◌}
 use Rattle.text.specs.declared.Mark.TheVariants.{Blank, Comment, Section}
 use Rattle.shape.specs.Stored.{mark_item}
@@ -14,8 +15,5 @@ returns-in-Plain c = c.plain_item.ensures ∙ sym (item-plain _ c.requires (sym 
 
 pub returns-in-Blank : goal.returns-in-Blank
 unfolding mark_item
-returns-in-Blank c = item-marked _ c.requires Blank (sym c.mark_of.ensures ∙ c.in-Blank.is)
-
-pub returns-in-Section : goal.returns-in-Section
-unfolding mark_item
-returns-in-Section c = item-marked _ c.requires Section (sym c.mark_of.ensures ∙ c.in-Section.is)
+returns-in-Blank c =
+    ⊎_elim (λ e. item-marked _ c.requires Blank (sym c.mark_of.ensures ∙ e)) (λ e. item-marked _ c.requires Section (sym c.mark_of.ensures ∙ e)) c.in-Blank.is

@@ -1,15 +1,9 @@
 use native.Mathlib.Omega.{arith}
 use mathlib.Core.Path.{sym, ◌∙◌}
 use Rattle.shape.proofs.Items.{held-at, held-item}
-use Rattle.shape.proofs.Counting.{counting-start, counting-end, counting-value, counting-skipped, counting-faulty}
+use Rattle.shape.proofs.Counting.{counting-end, counting-value, counting-skipped, counting-faulty}
 use Rattle.shape.proofs.count_values.Goals.{After-item_at-line}
 use Rattle.shape.proofs.count_values.Goals as goal
-
-pub loop-at-init : goal.loop-at-init
-loop-at-init c = counting-start _
-
-pub overflow_add-n : goal.overflow_add-n
-overflow_add-n c = omega (arith, c.loop-at.invariant.few, c.loop-at-test.true)
 
 pub loop-at-smaller-in-Value : goal.loop-at-smaller-in-Value
 loop-at-smaller-in-Value c = let l = (held-at _ _ _ c.item_at-line.ensures (omega arith)) in omega (arith, l.further, l.inside)

@@ -5,9 +5,3 @@ use Rattle.shape.proofs.cut_item.Goals as goal
 
 pub clean_item-requires : goal.clean_item-requires
 clean_item-requires c = breaks-clean _ (omega arith) _ c.requires c.if-clean.true
-
-pub returns-then-line-le1024 : goal.returns-then-line-le1024
-returns-then-line-le1024 c = c.clean_item.ensures
-
-pub returns : goal.returns
-returns c = c.line_item.ensures

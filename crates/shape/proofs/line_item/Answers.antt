@@ -5,9 +5,3 @@ use Rattle.shape.proofs.line_item.Goals as goal
 
 pub returns-then-breaks_line : goal.returns-then-breaks_line
 returns-then-breaks_line c = item-broken _ (sym c.breaks_line.ensures ∙ c.if-breaks_line.true)
-
-pub clean_item-requires : goal.clean_item-requires
-clean_item-requires c = sym c.breaks_line.ensures ∙ c.if-breaks_line.false
-
-pub returns : goal.returns
-returns c = c.clean_item.ensures

@@ -5,8 +5,8 @@ use Rattle.shape.specs.Stored.{number_item}
 use Rattle.shape.proofs.Items.{item-none, item-one, item-more}
 use Rattle.shape.proofs.plain_item.Goals as goal
 
-pub returns-then-line-start : goal.returns-then-line-start
-returns-then-line-start c = item-none (no_field _ 0 _ c.next_field-field.ensures c.if-line-start.true)
+pub returns-then-line-field : goal.returns-then-line-field
+returns-then-line-field c = item-none (no_field _ 0 _ c.next_field-field.ensures c.if-line-field.true)
 
 pub returns-then-second-line : goal.returns-then-second-line
 returns-then-second-line c = item-more (field-at _ _ _ c.next_field-field.ensures (omega arith)).field (field-at _ _ _ c.next_field-second.ensures c.if-second-line.true).field

@@ -1,5 +1,5 @@
 -- `shape::quick_value` meets its contract: behind a minus, or where the line starts. Assumes nothing.
-use mathlib.Core.Path.{refl, sym, ◌∙◌}
+use mathlib.Core.Path.{sym, ◌∙◌}
 use native.Mathlib.Omega.{arith}
 use Rattle.shape.proofs.Spelling.{stands-within, stands-drop}
 use Rattle.shape.proofs.quick_value.Goals.{Then-stands_at}
@@ -10,6 +10,3 @@ overflow_add-at c = let w = stands-within _ _ _ (sym c.stands_at.ensures ∙ c.i
 
 pub signed_value-requires : goal.signed_value-requires
 signed_value-requires c = record { split = stands-drop _ _ _ (sym c.stands_at.ensures ∙ c.if-stands_at.true); long = omega arith }
-
-pub signed_value-requires-2 : goal.signed_value-requires-2
-signed_value-requires-2 c = record { split = refl; long = omega arith }

@@ -1,12 +1,9 @@
 -- `shape::signed_value` meets its contract: what is spelt there is the line's one field. Assumes nothing.
 use mathlib.Core.Path.{sym, ◌∙◌}
 use native.Mathlib.Omega.{arith}
-use Rattle.shape.proofs.Spelling.{stands-within, value-later, value-behind, value-held}
+use Rattle.shape.proofs.Spelling.{stands-within, value-behind, value-held}
 use Rattle.shape.proofs.signed_value.Goals.{Else-not-stands_at}
 use Rattle.shape.proofs.signed_value.Goals as goal
-
-pub overflow_sub-stop : goal.overflow_sub-stop
-overflow_sub-stop c = value-later _ _ _ _ c.requires _ c.spell-number.ensures
 
 pub pointed-requires : goal.pointed-requires
 pointed-requires c =
@@ -18,6 +15,6 @@ overflow_add-result c =
     let w = stands-within _ _ _ (sym c.stands_at.ensures ∙ c.if-not-stands_at.false) in
     omega (arith, w)
 
-pub returns-in-Some : goal.returns-in-Some
-returns-in-Some c =
-    value-held _ _ _ _ c.requires _ c.spell-number.ensures (omega arith) (omega arith) (sym c.stands_at.ensures ∙ c.if-not-stands_at.false) _ _ c.pointed.ensures c.in-Some.is
+pub returns : goal.returns
+returns c =
+    value-held _ _ _ _ c.requires _ c.spell-number.ensures (omega arith) c.if-stop-at-gt32.false (sym c.stands_at.ensures ∙ c.if-not-stands_at.false) _ _ c.pointed.ensures c.in_ok-d.was

@@ -11,7 +11,7 @@ overflow_add-point c =
 
 pub returns-then-stands_at : goal.returns-then-stands_at
 returns-then-stands_at c =
-    spell-point _ _ _ c.gather-whole.ensures (sym c.stands_at.ensures ∙ c.if-stands_at.true) _ c.gather-all.ensures
+    spell-point _ _ _ c.gather-whole.ensures (sym c.stands_at.ensures ∙ c.if-stands_at.true) _ c.gather-v.ensures
 
 pub returns : goal.returns
 returns c = spell-whole _ _ _ c.gather-whole.ensures

@@ -1,14 +1,14 @@
--- `shape_text::is_writable` meets its contract: one return for no sample, one for too many, and the test of the samples. Assumes nothing.
-use mathlib.Core.Path.{◌∙◌}
-use native.Mathlib.Omega.{arith}
-use Rattle.shape_text.proofs.Samples.{writable-none, writable-long, writable-some}
+-- `shape_text::is_writable` meets its contract. Assumes nothing.
+use Rattle.std.proofs.Common.{arith}
+use Rattle.std.proofs.lemmas.Grind.{common_steps}
+use Rattle.std.proofs.lemmas.Bool.Decides.{nat_tests}
+use Rattle.shape_text.specs.Written.{is_writable}
 use Rattle.shape_text.proofs.is_writable.Goals as goal
 
-pub returns-then-samples-eq0 : goal.returns-then-samples-eq0
-returns-then-samples-eq0 c = writable-none c.args.samples.now c.if-samples-eq0.true
+pub returns-then-samples-le-MOST : goal.returns-then-samples-le-MOST
+unfolding is_writable
+returns-then-samples-le-MOST c = grind (arith, common_steps, nat_tests)
 
-pub returns-then-samples-gt1000000 : goal.returns-then-samples-gt1000000
-returns-then-samples-gt1000000 c = writable-long c.args.samples.now (omega arith)
-
-pub returns : goal.returns
-returns c = c.all_within.ensures ∙ writable-some c.args.samples.now c.if-samples-eq0.false (omega arith)
+pub returns-else-samples-le-MOST : goal.returns-else-samples-le-MOST
+unfolding is_writable
+returns-else-samples-le-MOST c = grind (arith, common_steps, nat_tests)

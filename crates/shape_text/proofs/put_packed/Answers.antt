@@ -7,18 +7,9 @@ use Rattle.shape_text.proofs.put_packed.Goals as goal
 pub loop-i-init : goal.loop-i-init
 loop-i-init c = packed_none _ _ _ (omega arith) (omega arith)
 
-pub run_end-end-requires : goal.run_end-end-requires
-run_end-end-requires c = (c.requires, omega arith)
-
-pub step-requires : goal.step-requires
-step-requires c = (c.requires, omega arith)
-
 pub loop-i-preserved : goal.loop-i-preserved
 loop-i-preserved c =
     packed_more c.loop-i.invariant c.run_end-end.ensures (rd-at c.step.result c.step.type_inv ∙ c.step.ensures) c.put_run-place.ensures
-
-pub shape_of-out : goal.shape_of-out
-shape_of-out c = packed-length c.loop-i.invariant
 
 pub returns : goal.returns
 returns c = packed_all c.loop-i.invariant (omega arith)

@@ -1,35 +1,25 @@
-use mathlib.Core.Bool.{Bool}
-use lib.IntN.{ℤ}
-use mathlib.Core.Path.{◌≡◌, ◌∙◌, sym, ap₂}
-use native.Mathlib.Omega.{arith}
-use Rattle.signed.specs.Signed.{same_z}
-use Rattle.signed.proofs.Machine.{rd-at}
-use Rattle.signed.proofs.Sign.{same_z-true}
+-- `shape_text::run_end` meets its contract. Assumes nothing.
+use Rattle.std.proofs.Common.{◌≡◌, ◌∙◌, sym, ap, length, arith}
+use mir.Syntax.{w64}
+use mir.Val.{of_z}
+use Rattle.signed.proofs.Machine.{bits-inj}
 use Rattle.shape_text.proofs.Runs.{running-one, running_more, running-other, running-end}
 use Rattle.shape_text.proofs.run_end.Goals as goal
-
-pub step-d-requires : goal.step-d-requires
-step-d-requires c = (c.requires.0, c.requires.1)
 
 pub loop-j-init : goal.loop-j-init
 loop-j-init c = running-one _ _ (omega arith)
 
-pub step-requires : goal.step-requires
-step-requires c = (c.requires.0, omega arith)
-
--- whether the difference at j is the one at i
-told : (r : Bool) (x y d e : ℤ) → r ≡ same_z x y → x ≡ d → y ≡ e → r ≡ same_z d e
-told r x y d e p q k = p ∙ ap₂ same_z q k
-
-pub returns-then-not-same : goal.returns-then-not-same
-returns-then-not-same c =
-    running-other c.loop-j.invariant (omega arith)
-    (sym (told _ _ _ _ _ c.same.ensures (rd-at c.step.result c.step.type_inv ∙ c.step.ensures) (rd-at c.step-d.result c.step-d.type_inv ∙ c.step-d.ensures)) ∙ c.if-not-same.true)
+pub returns-then-step-d : goal.returns-then-step-d
+returns-then-step-d c =
+    running-other c.loop-j.invariant (omega arith) (λ e. c.if-step-d.true (ap (of_z w64) (c.step.ensures ∙ e ∙ sym c.step-d.ensures)))
 
 pub loop-j-preserved : goal.loop-j-preserved
 loop-j-preserved c =
     running_more c.loop-j.invariant (omega arith)
-    (same_z-true _ _ (sym (told _ _ _ _ _ c.same.ensures (rd-at c.step.result c.step.type_inv ∙ c.step.ensures) (rd-at c.step-d.result c.step-d.type_inv ∙ c.step-d.ensures)) ∙ c.if-not-same.false))
+    (sym c.step.ensures ∙ bits-inj (record { sfits = c.step.type_inv }) (record { sfits = c.step-d.type_inv }) c.if-step-d.false ∙ c.step-d.ensures)
 
 pub returns : goal.returns
-returns c = running-end c.loop-j.invariant (omega arith)
+returns c =
+    let r = c.loop-j.invariant in
+    let e : length c.args.samples.now ≡ c.loop-j.j = omega (arith, r.inside) in
+    rw e (running-end r (omega arith))

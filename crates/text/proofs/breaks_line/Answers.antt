@@ -1,33 +1,29 @@
 -- `text::breaks_line` meets its contract. Assumes nothing.
-use mathlib.Core.Path.{refl, ◌∙◌}
-use native.Mathlib.Omega.{arith}
-use Rattle.text.specs.Marks.{is_comment}
-use Rattle.text.specs.declared.Mark.TheVariants.{Blank, Section, Plain}
-use Rattle.text.proofs.Marks.{breaks-long, breaks-comment, breaks-other}
+use Rattle.std.proofs.Common.{◌≡◌, refl, arith}
+use Rattle.std.proofs.lemmas.Grind.{common_steps}
+use Rattle.std.proofs.lemmas.Bool.Decides.{nat_tests}
+use denote.Enum.Bare.{sameb}
+use Rattle.text.specs.contracts.Mark.{the_type}
+use Rattle.text.specs.declared.Mark.{Mark}
+use Rattle.text.specs.declared.Mark.TheVariants.{Blank, Comment, Section, Plain}
+use Rattle.text.specs.Marks.{is_comment, breaks_line}
 use Rattle.text.proofs.breaks_line.Goals as goal
 
-pub returns-then-line-gt1024 : goal.returns-then-line-gt1024
-returns-then-line-gt1024 c = breaks-long _ (omega arith)
-
-pub returns-in-Comment : goal.returns-in-Comment
-returns-in-Comment c =
-    let m = c.before.before in
-    breaks-comment m.args.line.now (omega arith) m.mark_of.result m.mark_of.ensures c.in-Comment.is
-
-pub returns-in-Blank : goal.returns-in-Blank
+is-comment : (m : Mark) → sameb the_type m Comment ≡ is_comment m
 unfolding is_comment
-returns-in-Blank c =
-    let m = c.before.before.before in
-    c.has_control.ensures ∙ breaks-other m.args.line.now (omega arith) m.mark_of.result m.mark_of.ensures Blank c.in-Blank.is refl
+is-comment Blank = refl
+is-comment Comment = refl
+is-comment Section = refl
+is-comment Plain = refl
 
-pub returns-in-Section : goal.returns-in-Section
-unfolding is_comment
-returns-in-Section c =
-    let m = c.before.before.before in
-    c.has_control-in-Section.ensures ∙ breaks-other m.args.line.now (omega arith) m.mark_of.result m.mark_of.ensures Section c.in-Section.is refl
+pub returns-then-line-gt-LONGEST : goal.returns-then-line-gt-LONGEST
+unfolding breaks_line
+returns-then-line-gt-LONGEST c = grind (arith, common_steps, nat_tests)
 
-pub returns-in-Plain : goal.returns-in-Plain
-unfolding is_comment
-returns-in-Plain c =
-    let m = c.before.before.before in
-    c.has_control-in-Plain.ensures ∙ breaks-other m.args.line.now (omega arith) m.mark_of.result m.mark_of.ensures Plain c.in-Plain.is refl
+pub returns-then-ne : goal.returns-then-ne
+unfolding breaks_line
+returns-then-ne c = let e = is-comment c.mark_of.result in grind (arith, common_steps, nat_tests)
+
+pub returns-else-ne : goal.returns-else-ne
+unfolding breaks_line
+returns-else-ne c = let e = is-comment c.mark_of.result in grind (arith, common_steps, nat_tests)

@@ -1,24 +1,25 @@
 -- `text::mark_of` meets its contract. Assumes nothing.
-use native.Mathlib.Omega.{arith}
+use Rattle.std.proofs.Common.{◌∙◌, sym, arith}
+use borrow.Author.Tests.{ltb-false}
 use Rattle.text.proofs.Marks.{mark-none, mark-comment, mark-section, mark-plain}
 use Rattle.text.proofs.mark_of.Goals as goal
 
-pub returns-then-line-first : goal.returns-then-line-first
-returns-then-line-first c =
-    let s = c.before in
-    mark-none s.args.line.now s.skip-first.result s.skip-first.ensures (omega arith)
+pub returns-in-None : goal.returns-in-None
+returns-in-None c = mark-none c.args.line.now _ c.skip.ensures (ltb-false _ _ (sym c.in-None.ensures.lookup.0))
 
-pub returns-then-b-eq35 : goal.returns-then-b-eq35
-returns-then-b-eq35 c =
-    let s = c.before.before.before in
-    mark-comment s.args.line.now s.skip-first.result s.skip-first.ensures (omega arith) c.if-b-eq35.true
+pub returns-in-Some-eq35 : goal.returns-in-Some-eq35
+returns-in-Some-eq35 c =
+    let h = c.in-Some-eq35.ensures.lookup.3 in
+    mark-comment c.args.line.now _ c.skip.ensures h.0 (sym (h.1 0) ∙ c.in-Some-eq35.field-0-test)
 
-pub returns-then-b-eq91 : goal.returns-then-b-eq91
-returns-then-b-eq91 c =
-    let s = c.before.before.before.before in
-    mark-section s.args.line.now s.skip-first.result s.skip-first.ensures (omega arith) c.if-b-eq35.false c.if-b-eq91.true
+pub returns-in-Some-eq91 : goal.returns-in-Some-eq91
+returns-in-Some-eq91 c =
+    let h = c.in-Some-eq91.ensures.lookup.3 in
+    let f = sym (h.1 0) ∙ c.in-Some-eq91.field-0-test in
+    mark-section c.args.line.now _ c.skip.ensures h.0 (omega arith) f
 
-pub returns : goal.returns
-returns c =
-    let s = c.before.before.before.before in
-    mark-plain s.args.line.now s.skip-first.result s.skip-first.ensures (omega arith) c.if-b-eq35.false c.if-b-eq91.false
+pub returns-in-Some : goal.returns-in-Some
+returns-in-Some c =
+    let h = c.in-Some.ensures.lookup.3 in
+    let f = h.1 0 in
+    mark-plain c.args.line.now _ c.skip.ensures h.0 (rw f at c.in-Some.field-0-test.0.1) (rw f at c.in-Some.field-0-test.1)
