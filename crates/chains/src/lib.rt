@@ -5,12 +5,13 @@ ghost use Rattle.std.specs.Prelude.{◌≡◌};
 ghost use Rattle.chains.specs.Chains.{next_entry, exceeds_of, loops_at};
 
 use finding::Rows;
+use tables::ENTRY;
 
 // The row of the entry that follows entry k; n, the number of rows, if none does.
 pub fn next_entry(rows: Rows, k: usize) -> usize
     ensures { result ≡ next_entry rows.entry.numbers.now rows.entry.n k }
 {
-    rows.met_row(7, rows.number(k, 4))
+    rows.met_row(ENTRY, rows.number(k, 4))
 }
 
 // Has the chain from entry k more entries than are left to count?
@@ -28,5 +29,5 @@ fn exceeds(rows: Rows, k: usize, left: usize) -> bool
 pub fn loops(rows: Rows, k: usize) -> bool
     ensures { result ≡ loops_at rows.entry.numbers.now rows.entry.n k }
 {
-    rows.number(k, 0) == 7 && exceeds(rows, k, 256)
+    rows.number(k, 0) == ENTRY && exceeds(rows, k, 256)
 }

@@ -74,7 +74,7 @@ fn note_row(hints: &mut [u16], rows: &[i64], n: usize, base: usize, k: usize)
     ensures { hints.new ≡ noted_row hints.old rows.now n base k }
 {
     let class = tables::row_class(rows, k);
-    if class == 1 {
+    if class == tables::BLOCK {
         return;
     }
     let home = home_of(hints.len(), class, tables::number(rows, k, 1));
@@ -87,7 +87,7 @@ fn first_event(rows: &[i64], n: usize) -> usize
     ensures { result ≡ first_event rows.now n }
 {
     for k in 0..n {
-        if tables::row_class(rows, k) != 1 {
+        if tables::row_class(rows, k) != tables::BLOCK {
             return k;
         }
     }
@@ -212,7 +212,7 @@ impl<'a> Rows<'a> {
     pub fn samples_of<'s>(self, samples: &'s [i64], id: i64) -> &'s [i64]
         ensures { result.now ≡ samples_of self.entry.numbers.now self.entry.n samples.now id }
     {
-        let k = self.met_row(11, id);
+        let k = self.met_row(tables::SHAPE, id);
         if k < self.n {
             return tables::samples_at(self.numbers, k, samples);
         }

@@ -1,18 +1,13 @@
 -- Numbers and classes of rows, by the answers of the code's tests. Assumes nothing.
-use Prim.Native.Nat.{ℕ, ◌+◌, ◌*◌, ◌/◌, ◌^◌, ◌≤◌, ◌<◌}
+use Prim.Native.Nat.{ℕ, ◌+◌, ◌*◌, ◌/◌, ◌≤◌, ◌<◌}
 use mathlib.Core.Bool.{Bool, true, false, cond, ◌&&◌, and-true, and-false}
 use mathlib.Core.List.{List}
-use mathlib.Core.Path.{◌≡◌, refl, sym, ap}
+use mathlib.Core.Path.{◌≡◌, refl, sym}
 use borrow.Author.Tests.{lt-ltb, le-ltb}
 use lib.Dec.{ltb}
 use lib.IntN.{ℤ, pos}
-use lib.Signed.{mag}
-use mir.Syntax.{w64}
-use mir.Val.{of_z}
 use lib.ListN.{length, get_or}
 use Rattle.signed.specs.Signed.{same_z}
-use Rattle.signed.proofs.Machine.{bits-inj}
-use Rattle.signed.proofs.Sign.{same_z-refl, same_z-true}
 use Rattle.tables.specs.Tables.{number_at, class_of, class_at, is_row_of}
 
 -- ---- numbers
@@ -66,14 +61,3 @@ module _ (rows : List ℤ) (class id : ℤ) (k : ℕ) (own : ℤ) (p : own ≡ n
 -- what was compared, as it was read
 pub compared : {r : Bool} (a b x y : ℤ) → r ≡ same_z x y → x ≡ a → y ≡ b → same_z a b ≡ r
 compared a b x y e p q = sym (rw (p, q) at e)
-
--- ---- what a test of the machine says of two numbers, of which it compares the bits
-pub same-yes : (z y : ℤ) → mag z < 2 ^ 63 → mag y < 2 ^ 63 → of_z w64 z ≡ of_z w64 y → same_z z y ≡ true
-same-yes z y f g e = let q : z ≡ y = bits-inj (record { sfits = f }) (record { sfits = g }) e in rw q (same_z-refl y)
-
-pub same-no : (z y : ℤ) → (of_z w64 z ≡ of_z w64 y → ⊥) → same_z z y ≡ false
-same-no z y n = go (same_z z y) refl
-  where
-    go : (b : Bool) → same_z z y ≡ b → same_z z y ≡ false
-    go true e = absurd (n (ap (of_z w64) (same_z-true z y e)))
-    go false e = e

@@ -4,6 +4,24 @@
 ghost use Rattle.std.specs.Prelude.{◌≡◌, pos, take, drop};
 ghost use Rattle.tables.specs.Tables.{number_at, class_number, class_at, is_row_of, first_row, is_again, samples_at};
 
+// The kinds of rows, each row's first number. The class of an ID has the number of its rows' kind, but traps are of the class of gradients, and
+// labels that are incremented have a class of their own.
+pub const BLOCK: i64 = 1;
+pub const RF: i64 = 2;
+pub const GRADIENT: i64 = 3;
+pub const TRAP: i64 = 4;
+pub const ADC: i64 = 5;
+pub const DELAY: i64 = 6;
+pub const ENTRY: i64 = 7;
+pub const EXTENSION: i64 = 8;
+pub const TRIGGER: i64 = 9;
+pub const LABEL: i64 = 10;
+pub const SHAPE: i64 = 11;
+pub const INCREMENT: i64 = 12;
+
+// 1 in steps of 10^-12, in which samples are counted.
+pub const ONE: u64 = 1_000_000_000_000;
+
 // What an ID is unique in.
 #[derive(Clone, Copy)]
 pub enum Class {
