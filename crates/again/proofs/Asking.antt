@@ -11,12 +11,12 @@ use lib.ListN.{length}
 use Rattle.signed.specs.Signed.{same_z}
 use Rattle.signed.proofs.Sign.{same_z-true}
 use Rattle.text.proofs.Cases.{lt-or-ge, and_both, true-or-false}
-use Rattle.sets.specs.Sets.{kept_of, AllMet, is_in, unless_new}
+use Rattle.sets.specs.Sets.{kept_of, AllMet, unless_new}
 use Rattle.sets.specs.declared.Kept.{Kept}
 use Rattle.sets.specs.declared.Kept.TheVariants.{New, Old, Full}
-use Rattle.sets.proofs.Passing.{all_start, new-unlike, in-own, part_low}
+use Rattle.sets.proofs.Passing.{new-unlike, in-own, part_low}
 use Rattle.tables.specs.Tables.{first_such, class_at, number_at, is_row_of, first_row, is_again, first_again}
-use Rattle.tables.proofs.Found.{such-start, such-here, such-further, such-none, first-is}
+use Rattle.tables.proofs.Found.{such-here, such-further, such-none, first-is}
 use Rattle.again.specs.Noting.{is_open, all_ascend}
 use Rattle.again.proofs.Noting.{ascend-closed}
 use Rattle.again.specs.Inside.{Noted, id_at, key_at, is_asked, again_in}
@@ -57,14 +57,6 @@ none-again most rows n a e =
 module _ (most rows : List ℤ) (parts part : ℕ) where
   -- ---- a row that is asked for, by the tests of the code
   module _ (k : ℕ) where
-    pub asked-open : is_open most (class_at rows k) ≡ true → (x : ℕ) → x ≡ key_at rows k → is_in x parts part ≡ is_asked most rows parts part k
-    unfolding is_asked
-    asked-open e x q = rw (e, q)
-
-    pub asked-not : is_open most (class_at rows k) ≡ false → false ≡ is_asked most rows parts part k
-    unfolding is_asked
-    asked-not e = rw e
-
     pub again-not : is_asked most rows parts part k ≡ false → false ≡ again_in most rows parts part k
     unfolding again_in
     again-not e = rw e
@@ -94,10 +86,6 @@ pub record Keeping (start : List ℕ) (most rows : List ℤ) (n parts part : ℕ
   pub met : AllMet (key_at rows) (is_asked most rows parts part) places k
   pub same : first_such (again_in most rows parts part) k (n - k) ≡ first_such (again_in most rows parts part) 0 n
 
-pub keeping_start : (start : List ℕ) (most rows : List ℤ) (n parts part : ℕ) → Keeping start most rows n parts part start 0
-keeping_start start most rows n parts part =
-    record { few = omega arith; long = refl; met = all_start start; same = such-start (again_in most rows parts part) n }
-
 module _ {start : List ℕ} {most rows : List ℤ} {n parts part : ℕ} {places : List ℕ} {k : ℕ} (w : Keeping start most rows n parts part places k) where
   pub keeping-hit : k < n → again_in most rows parts part k ≡ true → k ≡ first_such (again_in most rows parts part) 0 n
   keeping-hit h e = such-here (again_in most rows parts part) k n h e ∙ w.same
@@ -114,9 +102,6 @@ pub record Best (most rows : List ℤ) (n parts first part : ℕ) : Type 0 where
   pub few : first ≤ n
   pub here : first < n → is_again rows first ≡ true
   pub none : (j : ℕ) → j < first → is_open most (class_at rows j) ≡ true → key_at rows j % parts < part → is_again rows j ≡ false
-
-pub best-start : (most rows : List ℤ) (n parts : ℕ) → Best most rows n parts n 0
-best-start most rows n parts = record { few = omega arith; here = λ (h : n < n). absurd (omega arith); none = λ j l o (h : key_at rows j % parts < 0). absurd (omega arith) }
 
 module _ {most rows : List ℤ} {n parts first part : ℕ} (b : Best most rows n parts first part) where
   pub best-turn : 1 ≤ parts → {r : ℕ} → r ≡ first_such (again_in most rows parts part) 0 first → Best most rows n parts r (part + 1)

@@ -31,10 +31,6 @@ not-above-self : (a : ℤ) → lt_z a a ≡ false
 not-above-self (pos a) = le-ltb a a (omega arith)
 not-above-self (negsuc a) = le-ltb a a (omega arith)
 
--- what was compared, as it was read
-pub ordered : {r : Bool} (a b x y : ℤ) → r ≡ lt_z x y → x ≡ a → y ≡ b → lt_z a b ≡ r
-ordered a b x y e p q = sym (rw (p, q) at e)
-
 -- ---- what is noted behind an ID, by the tests of the code
 module _ (greatest id : ℤ) where
   pub after-ended : same_z greatest (pos largest) ≡ true → greatest ≡ note_after greatest id
@@ -84,12 +80,6 @@ module _ (most : List ℤ) (class : ℤ) where
 
 -- ---- what the code reads and stores at the place of a class
 module _ (most : List ℤ) (class id : ℤ) (at : ℕ) (p : at ≡ place_of class) where
-  pub open_at : at < length most → same_z (get_or most at (pos 0)) (pos largest) ≡ is_open most class
-  open_at h = rw p (open-there most class (rw p at h))
-
-  pub open-past : length most ≤ at → true ≡ is_open most class
-  open-past h = open-beyond most class (rw p at h)
-
   pub note-beyond : length most ≤ at → most ≡ noted most class id
   unfolding noted
   note-beyond h = rw (← p) (sym (set_out most at (note_after (get_or most at (pos 0)) id) h))

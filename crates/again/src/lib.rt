@@ -9,24 +9,21 @@ ghost use Rattle.again.specs.Inside.{Noted, id_at, key_at, is_asked, again_in};
 
 use sets::Kept;
 
+// What is noted of a class whose IDs do not ascend: no ID is above it.
+const ENDED: i64 = i64::MAX;
+
 // Where it is noted of a class what IDs it has, of 13 places: the classes of rows, 0 to 12, have one each.
 fn place_of(class: i64) -> usize
     ensures { result ≡ place_of class }
 {
-    (signed::size(class) % 13) as usize
+    (class.unsigned_abs() % 13) as usize
 }
 
 // What is noted of a class behind an ID: the greatest while IDs ascend, then the largest number.
 fn note_after(greatest: i64, id: i64) -> i64
     ensures { result ≡ note_after greatest id }
 {
-    if signed::same(greatest, 9223372036854775807) {
-        return greatest;
-    }
-    if signed::less(greatest, id) {
-        return id;
-    }
-    9223372036854775807
+    if greatest < id { id } else { ENDED }
 }
 
 // Notes an ID in its class.
@@ -34,11 +31,9 @@ pub fn note(most: &mut [i64], class: i64, id: i64)
     ensures { most.new ≡ noted most.old class id }
 {
     let at = place_of(class);
-    if most.len() <= at {
-        return;
+    if at < most.len() {
+        most[at] = note_after(most[at], id);
     }
-    let next = note_after(most[at], id);
-    most[at] = next;
 }
 
 // Is it not noted that the IDs of a class ascend?
@@ -46,10 +41,7 @@ pub fn is_open(most: &[i64], class: i64) -> bool
     ensures { result ≡ is_open most.now class }
 {
     let at = place_of(class);
-    if at < most.len() {
-        return signed::same(most[at], 9223372036854775807);
-    }
-    true
+    most.len() <= at || most[at] == ENDED
 }
 
 // Is it noted of every class that its IDs ascend?
@@ -59,12 +51,10 @@ pub fn all_ascend(most: &[i64]) -> bool
     if most.len() < 13 {
         return false;
     }
-    let mut i: usize = 0;
-    while i < most.len() {
-        if signed::same(most[i], 9223372036854775807) {
+    for z in most {
+        if *z == ENDED {
             return false;
         }
-        i += 1;
     }
     true
 }
@@ -73,39 +63,23 @@ pub fn all_ascend(most: &[i64]) -> bool
 pub fn key(class: i64, id: i64) -> u64
     ensures { result ≡ key_of class id }
 {
-    sets::mix(sets::mix(signed::size(id), signed::size(class)), 0)
+    sets::mix(sets::mix(id.unsigned_abs(), class.unsigned_abs()), 0)
 }
 
 // Notes the IDs of n rows.
 fn note_rows(most: &mut [i64], rows: &[i64], n: usize)
     ensures { Noted (class_at rows.now) (id_at rows.now) most.new n }
 {
-    let mut k: usize = 0;
-    while k < n {
+    for k in 0..n {
         note(most, tables::row_class(rows, k), tables::number(rows, k, 1));
-        k += 1;
     }
-}
-
-// How many rows of open classes row k is: one or none.
-fn open_count(most: &[i64], rows: &[i64], k: usize) -> usize
-    ensures { result ≤ 1 }
-{
-    if is_open(most, tables::row_class(rows, k)) {
-        return 1;
-    }
-    0
 }
 
 // How many of n rows are of open classes, for the choice of parts.
 fn count_open(most: &[i64], rows: &[i64], n: usize) -> usize {
-    let mut count: usize = 0;
-    let mut k: usize = 0;
-    while k < n {
-        count += open_count(most, rows, k);
-        k += 1;
-    }
-    count
+    (0..n)
+        .filter(|k| is_open(most, tables::row_class(rows, *k)))
+        .count()
 }
 
 // Is row k of an open class, and its number in a part, of so many?
@@ -113,10 +87,7 @@ fn is_asked(most: &[i64], rows: &[i64], k: usize, parts: u64, part: u64) -> bool
     ensures { result ≡ is_asked most.now rows.now parts part k }
 {
     let class = tables::row_class(rows, k);
-    if is_open(most, class) {
-        return sets::is_in(key(class, tables::number(rows, k, 1)), parts, part);
-    }
-    false
+    is_open(most, class) && sets::is_in(key(class, tables::number(rows, k, 1)), parts, part)
 }
 
 // Keeps the number of row k. Does the row repeat an ID of its class? It does not if the number is new; else it is looked at.
@@ -129,8 +100,7 @@ fn keep_row(set: &mut [u64], rows: &[i64], k: usize) -> bool
         key(tables::row_class(rows, k), tables::number(rows, k, 1)),
     ) {
         Kept::New => false,
-        Kept::Old => tables::is_again(rows, k),
-        Kept::Full => tables::is_again(rows, k),
+        Kept::Old | Kept::Full => tables::is_again(rows, k),
     }
 }
 
@@ -140,22 +110,17 @@ fn look_at(set: &mut [u64], most: &[i64], rows: &[i64], k: usize, parts: u64, pa
     ensures value { result ≡ again_in most.now rows.now parts part k }
     ensures all_met { AllMet (key_at rows.now) (is_asked most.now rows.now parts part) set.new (k + 1) }
 {
-    if is_asked(most, rows, k, parts, part) {
-        return keep_row(set, rows, k);
-    }
-    false
+    is_asked(most, rows, k, parts, part) && keep_row(set, rows, k)
 }
 
 // The first of n rows that is asked for in a part and repeats an ID of its class; n if none does.
 fn first_kept(set: &mut [u64], most: &[i64], rows: &[i64], n: usize, parts: u64, part: u64) -> usize
     ensures { result ≡ first_such (again_in most.now rows.now parts part) 0 n }
 {
-    let mut k: usize = 0;
-    while k < n {
+    for k in 0..n {
         if look_at(set, most, rows, k, parts, part) {
             return k;
         }
-        k += 1;
     }
     n
 }
@@ -175,10 +140,8 @@ fn first_of_parts(most: &[i64], rows: &[i64], n: usize, parts: u64) -> usize
     ensures { result ≡ first_again rows.now n }
 {
     let mut first = n;
-    let mut part: u64 = 0;
-    while part < parts {
+    for part in 0..parts {
         first = first_in(most, rows, first, parts, part);
-        part += 1;
     }
     first
 }

@@ -126,18 +126,21 @@ module _ (e : Edition) (q : Rasters) (rows : List ℤ) (n : ℕ) (samples : List
 
 -- ---- a block of either edition
 module _ (e : Edition) (q : Rasters) (rows : List ℤ) (n : ℕ) (samples : List ℤ) (k : ℕ) (block : number_at rows k 0 ≡ pos 1) where
-  pub breaks-13 : e ≡ V13 → some_breaks V13 q rows n samples k 1000000000000 ≡ block_breaks e q rows n samples k
+  pub breaks-13 : e ≡ V13 → some_breaks e q rows n samples k 1000000000000 ≡ block_breaks e q rows n samples k
   unfolding some_breaks block_breaks
   breaks-13 v =
       rw (v, long-block q rows n samples k (pos 1) (sym block) V13 (same_z-refl (pos 1)) (ltb 1000000000000 (capped (longest_event V13 q rows n samples k))) (capped (longest_event V13 q rows n samples k)) (block-13 q rows n samples k V13 refl) refl)
 
-  module _ (v : e ≡ V14) (own : ℕ) (l : own ≡ capped (block_length V14 q rows n samples k)) {r : Bool} (p : r ≡ ltb 1000000000000 own) where
+  module _ (v : e ≡ V14) (own : ℕ) (b : own ≡ capped (block_length e q rows n samples k)) {r : Bool} (p : r ≡ ltb 1000000000000 own) where
+    l : own ≡ capped (block_length V14 q rows n samples k)
+    l = rw v at b
+
     pub breaks-long : r ≡ true → true ≡ block_breaks e q rows n samples k
     unfolding block_breaks
     breaks-long t =
         rw (v, ← long-block q rows n samples k (pos 1) (sym block) V14 (same_z-refl (pos 1)) r own l p, t) (either_true (dangles_at V14 rows n k))
 
-    pub breaks-14 : r ≡ false → some_breaks V14 q rows n samples k own ≡ block_breaks e q rows n samples k
+    pub breaks-14 : r ≡ false → some_breaks e q rows n samples k own ≡ block_breaks e q rows n samples k
     unfolding some_breaks block_breaks
     breaks-14 f =
         let most = capped (longest_event V14 q rows n samples k) in

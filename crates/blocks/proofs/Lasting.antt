@@ -64,14 +64,6 @@ module _ (q : Rasters) (rows : List ℤ) (n : ℕ) (samples : List ℤ) where
   -- ---- what a reference meets, for a class and an ID as they were handed on
   module _ {class id held ref : ℤ} (p : held ≡ class) (r : ref ≡ id) where
     module _ (k : ℕ) (m : k ≡ met_row rows n held ref) where
-      pub met-event : k < n → capped (length_at q rows n samples k) ≡ capped (met_length q rows n samples class id)
-      unfolding met_length
-      met-event h = rw (← p, ← r, ← m, lt-ltb k n h)
-
-      pub met-nothing : n ≤ k → 0 ≡ capped (met_length q rows n samples class id)
-      unfolding met_length
-      met-nothing h = rw (← p, ← r, ← m, le-ltb k n h)
-
       -- a number that refers to a row which is there, and to none
       pub reference-found : k < n → capped (found_length q rows n samples held k) ≡ capped (reference_length q rows n samples class id)
       unfolding found_length reference_length met_length
@@ -87,17 +79,9 @@ module _ (q : Rasters) (rows : List ℤ) (n : ℕ) (samples : List ℤ) where
 
   -- what is found: the first entry of a chain, or an event
   module _ {class held : ℤ} (p : held ≡ class) (k : ℕ) where
-    pub found-chain : same_z held (pos 7) ≡ true → capped (chain_length q rows n samples 256 k) ≡ capped (found_length q rows n samples class k)
-    unfolding found_length
-    found-chain e = rw (← p, e)
-
     pub found-untimed : same_z held (pos 7) ≡ true → {timed : Bool} → timed ≡ false → Timed timed rows n → 0 ≡ capped (found_length q rows n samples class k)
     unfolding found_length Timed
     found-untimed e t h = rw (← p, e, chain-untimed q rows n samples (h t) 256 k)
-
-    pub found-event : same_z held (pos 7) ≡ false → capped (length_at q rows n samples k) ≡ capped (found_length q rows n samples class k)
-    unfolding found_length
-    found-event e = rw (← p, e)
 
   pub entry-is : (k : ℕ) (type class number id ref : ℤ) → type ≡ number_at rows k 2 → class ≡ extension_ref rows n type → number ≡ class → id ≡ number_at rows k 3 → ref ≡ id
       → capped (met_length q rows n samples number ref) ≡ capped (entry_length q rows n samples k)
@@ -117,10 +101,6 @@ module _ (q : Rasters) (rows : List ℤ) (n : ℕ) (samples : List ℤ) where
         go : (b : Bool) → 0 ≡ capped (cond b (chain_length q rows n samples 256 n) (cond (ltb n n) (length_at q rows n samples n) 0))
         go true = chain-past 256 n (λ (h : 256 ≡ 0). omega arith) (omega arith)
         go false = rw (le-ltb n n (omega arith))
-
-    pub number-met : (class held ref : ℤ) → class ≡ ref_at e rows n k c → held ≡ class → ref ≡ id → capped (reference_length q rows n samples held ref) ≡ capped (number_length e q rows n samples k c)
-    unfolding number_length
-    number-met class held ref p r s = rw (r, p, s, i)
 
   -- ---- the numbers of a block, one after another
   module _ (e : Edition) (k : ℕ) where

@@ -119,10 +119,6 @@ unfolding Timed
 timed-all rows n = λ e. absurd (true≢false e)
 
 -- ---- rows, one after another: the first trigger is the first of those that are left
-pub trigger-is : (rows : List ℤ) (k : ℕ) {kind held : ℤ} {r : Bool} → kind ≡ number_at rows k 0 → held ≡ kind → r ≡ same_z held (pos 9) → is_trigger rows k ≡ r
-unfolding is_trigger
-trigger-is rows k p h e = sym (e ∙ rw (h, p))
-
 module _ (rows : List ℤ) (n : ℕ) where
   pub triggers-yes : (k : ℕ) → k ≡ first_such (is_trigger rows) 0 n → k < n → true ≡ has_triggers rows n
   unfolding has_triggers

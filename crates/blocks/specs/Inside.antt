@@ -1,5 +1,6 @@
 -- What the inner functions answer. Nothing here needs to be believed: laws lead from these to the definitions of the other files.
 use Rattle.std.specs.Prelude.{ℕ, Bool, false, cond, ◌||◌, List, ◌≡◌, ltb, ℤ, pos}
+use Rattle.std.specs.Coded.{Π_prop, Coded-set, coded_bool}
 use Rattle.signed.specs.Signed.{same_z}
 use Rattle.unit.specs.Time.{capped}
 use Rattle.unit.specs.declared.Rasters.{Rasters}
@@ -22,6 +23,11 @@ has_triggers rows n = ltb (first_such (is_trigger rows) 0 n) n
 
 unfoldable pub Timed : Bool → List ℤ → ℕ → Type 0
 Timed timed rows n = timed ≡ false → has_triggers rows n ≡ false
+
+-- that there is one proof of it, so that a struct can hold it
+pub Timed-prop : (timed : Bool) (rows : List ℤ) (n : ℕ) → IsProp (Timed timed rows n)
+unfolding Timed
+Timed-prop timed rows n = Π_prop (λ e. Coded-set coded_bool (has_triggers rows n) false)
 
 -- how long that lasts which a number of this class refers to and which is row k
 unfoldable pub found_length : Rasters → List ℤ → ℕ → List ℤ → ℤ → ℕ → ℕ

@@ -69,7 +69,8 @@ fn kind_of(n: u64) -> Kind
     }
 }
 
-// The kinds of nine columns of a form as the digits of a number to the base 16, the first column's lowest.
+// The kinds of nine columns of a form as the digits of a number to the base 16, the first column's lowest: one
+// shift reads a kind, which is asked for every field.
 fn kinds_of(edition: Edition, form: Form) -> u64
     ensures { result ≡ packed 9 (columns_of edition form) }
 {
@@ -124,16 +125,5 @@ pub fn column_count(form: Form, edition: Edition) -> usize
 pub fn is_absent(kind: Kind) -> bool
     ensures { result ≡ is_absent kind }
 {
-    match kind {
-        Kind::Id => false,
-        Kind::Reference => false,
-        Kind::Required => false,
-        Kind::Micros => false,
-        Kind::Duration => false,
-        Kind::Count => false,
-        Kind::Natural => false,
-        Kind::Decimal => false,
-        Kind::Dwell => false,
-        Kind::Absent => true,
-    }
+    matches!(kind, Kind::Absent)
 }

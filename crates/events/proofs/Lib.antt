@@ -1,4 +1,3 @@
 -- The laws of events by themselves.
 pub mod Fitting
 pub mod Marking
-pub mod Aligning

@@ -30,14 +30,6 @@ pub rising-fit : {asked : Asked} (zs : List ℤ) → asked ≡ Rising → rises_
 unfolding samples_fit
 rising-fit zs e = rw e
 
-pub unit-number : {asked : Asked} → asked ≡ Unit → 0 ≡ asked_number asked
-unfolding asked_number
-unit-number e = rw e
-
-pub rising-number : {asked : Asked} → asked ≡ Rising → 1 ≡ asked_number asked
-unfolding asked_number
-rising-number e = rw e
-
 pub asked-most : (asked : Asked) → asked_number asked ≤ 1
 unfolding asked_number
 asked-most Unit = omega arith

@@ -9,6 +9,7 @@ ghost use Rattle.passing.specs.Sound.{sound_of};
 ghost use Rattle.tables.specs.Tables.{NoneAgain};
 
 use file::{Summary, Walk};
+use finding::Rows;
 use places::{Found, Stepped};
 use rules::Rule;
 use shape::Edition;
@@ -252,19 +253,16 @@ fn check_rules(
     file: &[u8],
     edition: Edition,
     rasters: Rasters,
-    table: &[i64],
-    rows: usize,
+    rows: Rows,
     samples: &[i64],
 ) -> Verdict
-    requires { NoneAgain table.now rows }
     ensures { result ≡ result }
 {
-    let hints = [0u16; 16];
     let mut i: usize = 0;
     while i < 6 {
         let rule = rule_at(i);
-        let k = rules::first_broken(rule, edition, rasters, table, &hints, rows, samples);
-        if k < rows {
+        let k = rules::first_broken(rule, edition, rasters, rows, samples);
+        if k < rows.n {
             let line = file::row_line(file, k);
             let number = rule.number();
             return Verdict { number, line };
@@ -298,12 +296,17 @@ fn judge_rows(
         show_refusal(expanded.number, expanded.line);
         return;
     }
-    let events = check_rules(file, edition, rasters, table, rows, &samples);
+    let hints = [0u16; 16];
+    let told = Rows {
+        numbers: table,
+        hints: &hints,
+        n: rows,
+    };
+    let events = check_rules(file, edition, rasters, told, &samples);
     if events.number != 0 {
         show_refusal(events.number, events.line);
         return;
     }
-    let hints = [0u16; 16];
     rules::fill_lengths(edition, rasters, table, &hints, rows, &samples);
     show_accepted(table, rows, &samples, count);
 }

@@ -83,14 +83,6 @@ length-noted hints rows n base k = go (same_z (class_at rows k) (pos 1))
     go false = length-laid hints at (mark_of k n base)
 
 -- ---- the base
-pub base-laid : (hints : List ℕ) (rows : List ℤ) (n : ℕ) {first mark : ℕ} {next : List ℕ} → first ≡ first_event rows n → mark ≡ base_mark first → next ≡ laid_on hints (length hints - 1) mark → next ≡ based_on hints rows n
-unfolding based_on
-base-laid hints rows n f m x = rw (x, m, f)
-
-pub base-none : (hints : List ℕ) (rows : List ℤ) (n : ℕ) → length hints ≡ 0 → hints ≡ based_on hints rows n
-unfolding based_on
-base-none hints rows n e = laid_out hints (length hints - 1) (base_mark (first_event rows n)) (omega arith)
-
 length-based : (hints : List ℕ) (rows : List ℤ) (n : ℕ) → length (based_on hints rows n) ≡ length hints
 unfolding based_on
 length-based hints rows n = length-laid hints (length hints - 1) (base_mark (first_event rows n))
@@ -128,9 +120,9 @@ pub group-most : (n : ℕ) → group_of n ≤ 1000001
 unfolding group_of
 group-most n = omega arith
 
-pub begins-below : {size : ℕ} (n mark : ℕ) → size ≡ group_of n → mark < 65536 → (mark - 1) * size ≤ 65535 * 1000001
-begins-below {size} n mark e h = let g = group-most n in
-    let a : mark - 1 ≤ 65535 = omega arith in
+pub begins-below : {size before : ℕ} (n mark : ℕ) → size ≡ group_of n → before ≡ mark - 1 → mark < 65536 → before * size ≤ 65535 * 1000001
+begins-below {size} {before} n mark e f h = let g = group-most n in
+    let a : before ≤ 65535 = omega arith in
     let b : size ≤ 1000001 = omega arith in
     mul-le-mul a b
 

@@ -2,42 +2,39 @@
 #![tactic(auto)]
 
 ghost use Rattle.std.specs.Prelude.{◌-◌, ◌≤◌, ◌<◌, ◌≡◌, true};
-ghost use Rattle.tables.specs.Tables.{is_row_of, first_row, NoneAgain, met_row, met_number, samples_of};
+ghost use Rattle.tables.specs.Tables.{number_at, is_row_of, first_row, NoneAgain, met_row, met_number, samples_of};
+ghost use Rattle.tables.proofs.Found.{NoneAgain-prop};
 ghost use Rattle.finding.specs.Hints.{group_of, room_of, home_of, free_from, laid_on, mark_of, first_event, base_mark, based_on, base_of, noted_row, noted_all};
+
+// The first n rows of a table, of which none repeats an ID of its class, and hints for finding them.
+#[derive(Clone, Copy)]
+pub struct Rows<'a> {
+    pub numbers: &'a [i64],
+    pub hints: &'a [u16],
+    pub n: usize,
+    pub ghost once: { NoneAgain numbers.now n } by { NoneAgain-prop numbers.now n },
+}
 
 // How many rows share a hint, so that a hint of 16 bits can name any of n rows from the base on.
 fn group_of(n: usize) -> usize
     ensures { result ≡ group_of n }
 {
-    if n < 65535 {
-        return 1;
-    }
-    let most = n / 65535;
-    if 1000000 < most {
-        return 1000001;
-    }
-    most + 1
+    (n / 65535).min(1000000) + 1
 }
 
 // Among how many of so many places a hint can have its home: 63 more stand behind each, and behind all the base.
 fn room_of(count: usize) -> u64
     ensures { result ≡ room_of count }
 {
-    if count < 64 {
-        return 0;
-    }
-    if 4294967296 < count {
-        return 4294967232;
-    }
-    (count - 64) as u64
+    count.min(4294967296).saturating_sub(64) as u64
 }
 
 // The home of the hint for an ID of a class, among so many places. An ID is mixed, so that IDs in any order spread.
 fn home_of(count: usize, class: i64, id: i64) -> usize
     ensures { result ≡ home_of count class id }
 {
-    let own = signed::size(id) % 4294967296 * 2654435769;
-    let mixed = (own + signed::size(class) % 16 * 268435456) % 4294967296;
+    let own = id.unsigned_abs() % 4294967296 * 2654435769;
+    let mixed = (own + class.unsigned_abs() % 16 * 268435456) % 4294967296;
     (mixed * room_of(count) / 4294967296) as usize
 }
 
@@ -46,49 +43,29 @@ fn free_from(hints: &[u16], home: usize) -> usize
     ensures { result ≡ free_from hints.now home 64 }
 {
     let mut at = home;
-    let mut left: usize = 64;
-    while 0 < left {
-        if hints.len() <= at {
-            return at;
-        }
-        if hints[at] == 0 {
+    for _tried in 0..64usize {
+        if at >= hints.len() || hints[at] == 0 {
             return at;
         }
         at += 1;
-        left -= 1;
     }
     at
-}
-
-// How many of n rows stand from a base on.
-fn beyond(n: usize, base: usize) -> usize
-    ensures { result ≡ n - base }
-{
-    if n < base {
-        return 0;
-    }
-    n - base
 }
 
 // The hint for row k of n: the number of its group, from 1, counted from the base on.
 fn mark_of(k: usize, n: usize, base: usize) -> u16
     ensures { result ≡ mark_of k n base }
 {
-    let group = beyond(k, base) / group_of(beyond(n, base));
-    if 65534 < group {
-        return 65535;
-    }
-    (group + 1) as u16
+    let group = k.saturating_sub(base) / group_of(n.saturating_sub(base));
+    (group.min(65534) + 1) as u16
 }
 
 // Lays a hint at a place, if that is there and has none.
 fn lay_hint(hints: &mut [u16], at: usize, mark: u16)
     ensures { hints.new ≡ laid_on hints.old at mark }
 {
-    if at < hints.len() {
-        if hints[at] == 0 {
-            hints[at] = mark;
-        }
+    if at < hints.len() && hints[at] == 0 {
+        hints[at] = mark;
     }
 }
 
@@ -97,7 +74,7 @@ fn note_row(hints: &mut [u16], rows: &[i64], n: usize, base: usize, k: usize)
     ensures { hints.new ≡ noted_row hints.old rows.now n base k }
 {
     let class = tables::row_class(rows, k);
-    if signed::same(class, 1) {
+    if class == tables::BLOCK {
         return;
     }
     let home = home_of(hints.len(), class, tables::number(rows, k, 1));
@@ -109,12 +86,10 @@ fn note_row(hints: &mut [u16], rows: &[i64], n: usize, base: usize, k: usize)
 fn first_event(rows: &[i64], n: usize) -> usize
     ensures { result ≡ first_event rows.now n }
 {
-    let mut k: usize = 0;
-    while k < n {
-        if !signed::same(tables::row_class(rows, k), 1) {
+    for k in 0..n {
+        if tables::row_class(rows, k) != tables::BLOCK {
             return k;
         }
-        k += 1;
     }
     n
 }
@@ -123,33 +98,22 @@ fn first_event(rows: &[i64], n: usize) -> usize
 fn base_mark(k: usize) -> u16
     ensures { result ≡ base_mark k }
 {
-    let most = k / 256;
-    if 65534 < most {
-        return 65535;
-    }
-    most as u16
+    (k / 256).min(65535) as u16
 }
 
 // Lays the base behind all hints: blocks, which are not noted, stand before all other rows in most files.
 fn lay_base(hints: &mut [u16], rows: &[i64], n: usize)
     ensures { hints.new ≡ based_on hints.old rows.now n }
 {
-    if hints.len() == 0 {
-        return;
-    }
-    let at = hints.len() - 1;
-    lay_hint(hints, at, base_mark(first_event(rows, n)));
+    let last = hints.len().saturating_sub(1);
+    lay_hint(hints, last, base_mark(first_event(rows, n)));
 }
 
 // The base from which rows are counted in hints.
 fn base_in(hints: &[u16]) -> usize
     ensures { (result ≡ base_of hints.now) × (result ≤ 16776960) }
 {
-    if hints.len() == 0 {
-        return 0;
-    }
-    let at = hints.len() - 1;
-    hints[at] as usize * 256
+    usize::from(hints.last().copied().unwrap_or(0)) * 256
 }
 
 // Notes where each of n rows stands.
@@ -158,116 +122,100 @@ pub fn note_rows(hints: &mut [u16], rows: &[i64], n: usize)
 {
     lay_base(hints, rows, n);
     let base = base_in(hints);
-    let mut k: usize = 0;
-    while k < n {
+    for k in 0..n {
         note_row(hints, rows, n, base, k);
-        k += 1;
     }
 }
 
 // The row of this class with this ID among so many rows from a row on; n if none is.
-fn row_from(rows: &[i64], n: usize, from: usize, size: usize, class: i64, id: i64) -> usize
-    ensures { result < n → is_row_of rows.now class id result ≡ true }
+fn row_from(rows: Rows, from: usize, size: usize, class: i64, id: i64) -> usize
+    ensures { result < rows.entry.n → is_row_of rows.entry.numbers.now class id result ≡ true }
 {
-    let mut k = from;
-    let mut left = size;
-    while 0 < left {
-        if n <= k {
-            return n;
-        }
-        if tables::is_row_of(rows, k, class, id) {
+    for k in from..rows.n.min(from.saturating_add(size)) {
+        if tables::is_row_of(rows.numbers, k, class, id) {
             return k;
         }
-        k += 1;
-        left -= 1;
     }
-    n
+    rows.n
 }
 
 // The row of this class with this ID in the group of a hint; n if none is.
-fn row_in(rows: &[i64], n: usize, base: usize, mark: u16, class: i64, id: i64) -> usize
+fn row_in(rows: Rows, base: usize, mark: u16, class: i64, id: i64) -> usize
     requires { (1 ≤ mark) × (base ≤ 16776960) }
-    ensures { result < n → is_row_of rows.now class id result ≡ true }
+    ensures { result < rows.entry.n → is_row_of rows.entry.numbers.now class id result ≡ true }
 {
-    let size = group_of(beyond(n, base));
-    let from = (mark - 1) as usize * size + base;
-    row_from(rows, n, from, size, class, id)
+    let size = group_of(rows.n.saturating_sub(base));
+    let from = usize::from(mark - 1) * size + base;
+    row_from(rows, from, size, class, id)
 }
 
-// The row of this class with this ID by its hint; n if no hint leads there.
-fn hinted(rows: &[i64], hints: &[u16], n: usize, class: i64, id: i64) -> usize
-    ensures { result < n → is_row_of rows.now class id result ≡ true }
+// The row of this class with this ID by its hint, which stands at its home or up to 63 places behind; n if no hint leads there.
+fn hinted(rows: Rows, class: i64, id: i64) -> usize
+    ensures { result < rows.entry.n → is_row_of rows.entry.numbers.now class id result ≡ true }
 {
-    let base = base_in(hints);
-    let mut at = home_of(hints.len(), class, id);
-    let mut left: usize = 64;
-    while 0 < left {
-        if hints.len() <= at {
-            return n;
-        }
-        let mark = hints[at];
+    let base = base_in(rows.hints);
+    let home = home_of(rows.hints.len(), class, id);
+    for at in home..rows.hints.len().min(home.saturating_add(64)) {
+        let mark = rows.hints[at];
         if mark == 0 {
-            return n;
+            return rows.n;
         }
-        let k = row_in(rows, n, base, mark, class, id);
-        if k < n {
+        let k = row_in(rows, base, mark, class, id);
+        if k < rows.n {
             return k;
         }
-        at += 1;
-        left -= 1;
     }
-    n
+    rows.n
 }
 
-// The row of this class with this ID among n rows of which none repeats one; n if there is none. Where its hint leads is looked at first.
-pub fn find_once(rows: &[i64], hints: &[u16], n: usize, class: i64, id: i64) -> usize
-    requires { NoneAgain rows.now n }
-    ensures { result ≡ first_row rows.now n class id }
-{
-    let k = hinted(rows, hints, n, class, id);
-    if k < n {
-        return k;
+impl<'a> Rows<'a> {
+    // Number c of row k, kind first; 0 where the table has no such row.
+    pub fn number(self, k: usize, c: usize) -> i64
+        ensures { result ≡ number_at self.entry.numbers.now k c }
+    {
+        tables::number(self.numbers, k, c)
     }
-    tables::find(rows, n, class, id)
-}
 
-// The row that a reference meets among n rows of which none repeats an ID; n if it is 0 or meets none.
-pub fn met_row(rows: &[i64], hints: &[u16], n: usize, class: i64, id: i64) -> usize
-    requires { NoneAgain rows.now n }
-    ensures { result ≡ met_row rows.now n class id }
-{
-    if signed::same(id, 0) {
-        return n;
+    // The row of this class with this ID; n if there is none. Where its hint leads is looked at first.
+    pub fn find_once(self, class: i64, id: i64) -> usize
+        ensures { result ≡ first_row self.entry.numbers.now self.entry.n class id }
+    {
+        let k = hinted(self, class, id);
+        if k < self.n {
+            return k;
+        }
+        tables::find(self.numbers, self.n, class, id)
     }
-    find_once(rows, hints, n, class, id)
-}
 
-// Number c of the row that a reference meets; 0 if it meets none.
-pub fn met_number(rows: &[i64], hints: &[u16], n: usize, class: i64, id: i64, c: usize) -> i64
-    requires { NoneAgain rows.now n }
-    ensures { result ≡ met_number rows.now n class id c }
-{
-    let k = met_row(rows, hints, n, class, id);
-    if k < n {
-        return tables::number(rows, k, c);
+    // The row that a reference meets; n if it is 0 or meets none.
+    pub fn met_row(self, class: i64, id: i64) -> usize
+        ensures { result ≡ met_row self.entry.numbers.now self.entry.n class id }
+    {
+        if id == 0 {
+            return self.n;
+        }
+        self.find_once(class, id)
     }
-    0
-}
 
-// The samples of the shape with this ID; none if there is no such shape.
-pub fn samples_of<'a>(
-    rows: &[i64],
-    hints: &[u16],
-    n: usize,
-    samples: &'a [i64],
-    id: i64,
-) -> &'a [i64]
-    requires { NoneAgain rows.now n }
-    ensures { result.now ≡ samples_of rows.now n samples.now id }
-{
-    let k = met_row(rows, hints, n, 11, id);
-    if k < n {
-        return tables::samples_at(rows, k, samples);
+    // Number c of the row that a reference meets; 0 if it meets none.
+    pub fn met_number(self, class: i64, id: i64, c: usize) -> i64
+        ensures { result ≡ met_number self.entry.numbers.now self.entry.n class id c }
+    {
+        let k = self.met_row(class, id);
+        if k < self.n {
+            return self.number(k, c);
+        }
+        0
     }
-    &samples[..0]
+
+    // The samples of the shape with this ID; none if there is no such shape.
+    pub fn samples_of<'s>(self, samples: &'s [i64], id: i64) -> &'s [i64]
+        ensures { result.now ≡ samples_of self.entry.numbers.now self.entry.n samples.now id }
+    {
+        let k = self.met_row(tables::SHAPE, id);
+        if k < self.n {
+            return tables::samples_at(self.numbers, k, samples);
+        }
+        &[]
+    }
 }

@@ -13,6 +13,7 @@ ghost use Rattle.reader.specs.Inside.{RowsJudged, TextsJudged, FileJudged, AllJu
 
 use answers::{Answer, Counts, Refusal};
 use file::{Summary, Walk};
+use finding::Rows;
 use shape::Edition;
 use unit::Rasters;
 
@@ -21,26 +22,24 @@ fn ask_rules(
     edition: Edition,
     rasters: Rasters,
     file: &[u8],
-    rows: &[i64],
-    hints: &[u16],
-    n: usize,
+    rows: Rows,
     samples: &[i64],
     count: usize,
 ) -> Answer
-    requires { NoneAgain rows.now n }
-    ensures { result ≡ rules_asked edition rasters file.now rows.now n samples.now (Accepted n count) }
+    ensures { let n = rows.entry.n in
+        result ≡ rules_asked edition rasters file.now rows.entry.numbers.now n samples.now (Accepted n count) }
 {
     let accepted = Ok(Counts {
-        rows: n,
+        rows: rows.n,
         samples: count,
     });
-    if n <= rules::first_breaking(edition, rasters, rows, hints, n, samples) {
+    if rows.n <= rules::first_breaking(edition, rasters, rows, samples) {
         return accepted;
     }
     for i in 0..6 {
         let rule = questions::rule_at(i);
-        let k = rules::first_broken(rule, edition, rasters, rows, hints, n, samples);
-        if k < n {
+        let k = rules::first_broken(rule, edition, rasters, rows, samples);
+        if k < rows.n {
             return answers::refused(questions::rule_refusal(rule), file::row_line(file, k));
         }
     }
@@ -69,7 +68,12 @@ fn judge_rows(
     }
     let mut hints = [0u16; 524288];
     finding::note_rows(&mut hints, rows, n);
-    let judged = ask_rules(edition, rasters, file, rows, &hints, n, samples, count);
+    let table = Rows {
+        numbers: rows,
+        hints: &hints,
+        n,
+    };
+    let judged = ask_rules(edition, rasters, file, table, samples, count);
     if answers::is_accepted(judged) {
         rules::fill_lengths(edition, rasters, rows, &hints, n, samples);
     }

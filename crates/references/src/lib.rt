@@ -1,18 +1,19 @@
 // References: which class each number of a row refers to, and whether it meets a row there.
 #![tactic(auto)]
 
-ghost use Rattle.tables.specs.Tables.{NoneAgain};
 ghost use Rattle.std.specs.Prelude.{◌≡◌, pos, get_or};
 ghost use Rattle.references.specs.References.{duration_ref, block_refs, rf_refs, gradient_refs, extension_ref, entry_refs, ref_at, misses_at, dangles_at};
 
+use finding::Rows;
 use shape::Edition;
+use tables::{ADC, BLOCK, DELAY, ENTRY, EXTENSION, GRADIENT, INCREMENT, LABEL, RF, SHAPE, TRIGGER};
 
 // The class of a block's second column: a delay in 1.3, a duration and no reference in 1.4.
 fn duration_ref(edition: Edition) -> i64
     ensures { result ≡ pos (duration_ref edition) }
 {
     match edition {
-        Edition::V13 => 6,
+        Edition::V13 => DELAY,
         Edition::V14 => 0,
     }
 }
@@ -23,125 +24,91 @@ pub fn block_ref(edition: Edition, c: usize) -> i64
 {
     match c {
         2 => duration_ref(edition),
-        3 => 2,
-        4 => 3,
-        5 => 3,
-        6 => 3,
-        7 => 5,
-        8 => 7,
+        3 => RF,
+        4..=6 => GRADIENT,
+        7 => ADC,
+        8 => ENTRY,
         _ => 0,
     }
 }
 
-// The class that number c of an RF event refers to.
+// The class that number c of an RF event refers to: its magnitude, phase and time are shapes.
 fn rf_ref(c: usize) -> i64
     ensures { result ≡ pos (get_or rf_refs c 0) }
 {
     match c {
-        4 => 11,
-        5 => 11,
-        6 => 11,
+        4..=6 => SHAPE,
         _ => 0,
     }
 }
 
-// The class that number c of a gradient refers to.
+// The class that number c of a gradient refers to: its amplitude and time are shapes.
 fn gradient_ref(c: usize) -> i64
     ensures { result ≡ pos (get_or gradient_refs c 0) }
 {
     match c {
-        4 => 11,
-        5 => 11,
+        4 | 5 => SHAPE,
         _ => 0,
     }
 }
 
 // The class of the rows that an entry of an extension type refers to, by the code of the extension; 0 where that is unknown.
-pub fn extension_ref(rows: &[i64], hints: &[u16], n: usize, number: i64) -> i64
-    requires { NoneAgain rows.now n }
-    ensures { result ≡ extension_ref rows.now n number }
+pub fn extension_ref(rows: Rows, number: i64) -> i64
+    ensures { result ≡ extension_ref rows.entry.numbers.now rows.entry.n number }
 {
-    let code = finding::met_number(rows, hints, n, 8, number, 2);
-    if signed::same(code, 1) {
-        return 9;
+    match rows.met_number(EXTENSION, number, 2) {
+        1 => TRIGGER,
+        2 => LABEL,
+        3 => INCREMENT,
+        _ => 0,
     }
-    if signed::same(code, 2) {
-        return 10;
-    }
-    if signed::same(code, 3) {
-        return 12;
-    }
-    0
 }
 
 // The class that number c of an entry refers to, whose type is this.
-fn entry_ref(rows: &[i64], hints: &[u16], n: usize, number: i64, c: usize) -> i64
-    requires { NoneAgain rows.now n }
-    ensures { result ≡ get_or (entry_refs rows.now n number) c (pos 0) }
+fn entry_ref(rows: Rows, number: i64, c: usize) -> i64
+    ensures { result ≡ get_or (entry_refs rows.entry.numbers.now rows.entry.n number) c (pos 0) }
 {
     match c {
-        2 => 8,
-        3 => extension_ref(rows, hints, n, number),
-        4 => 7,
+        2 => EXTENSION,
+        3 => extension_ref(rows, number),
+        4 => ENTRY,
         _ => 0,
     }
 }
 
 // The class that number c of row k refers to; 0 is none.
-pub fn ref_at(edition: Edition, rows: &[i64], hints: &[u16], n: usize, k: usize, c: usize) -> i64
-    requires { NoneAgain rows.now n }
-    ensures { result ≡ ref_at edition rows.now n k c }
+pub fn ref_at(edition: Edition, rows: Rows, k: usize, c: usize) -> i64
+    ensures { result ≡ ref_at edition rows.entry.numbers.now rows.entry.n k c }
 {
-    let kind = tables::number(rows, k, 0);
-    if signed::same(kind, 1) {
-        return block_ref(edition, c);
+    match rows.number(k, 0) {
+        BLOCK => block_ref(edition, c),
+        RF => rf_ref(c),
+        GRADIENT => gradient_ref(c),
+        ENTRY => entry_ref(rows, rows.number(k, 2), c),
+        _ => 0,
     }
-    if signed::same(kind, 2) {
-        return rf_ref(c);
-    }
-    if signed::same(kind, 3) {
-        return gradient_ref(c);
-    }
-    if signed::same(kind, 7) {
-        return entry_ref(rows, hints, n, tables::number(rows, k, 2), c);
-    }
-    0
 }
 
 // Does number c of row k refer to a row that is not among the n? Most numbers are 0, and ask for none.
-fn number_misses(
-    edition: Edition,
-    rows: &[i64],
-    hints: &[u16],
-    n: usize,
-    k: usize,
-    c: usize,
-) -> bool
-    requires { NoneAgain rows.now n }
-    ensures { result ≡ misses_at edition rows.now n k c }
+fn number_misses(edition: Edition, rows: Rows, k: usize, c: usize) -> bool
+    ensures { result ≡ misses_at edition rows.entry.numbers.now rows.entry.n k c }
 {
-    let id = tables::number(rows, k, c);
-    if signed::same(id, 0) {
+    let id = rows.number(k, c);
+    if id == 0 {
         return false;
     }
-    let class = ref_at(edition, rows, hints, n, k, c);
-    if signed::same(class, 0) {
-        return false;
-    }
-    n <= finding::find_once(rows, hints, n, class, id)
+    let class = ref_at(edition, rows, k, c);
+    class != 0 && rows.n <= rows.find_once(class, id)
 }
 
 // Does row k refer to a row that is not among the n? Its kind and its ID refer to none.
-pub fn dangles(edition: Edition, rows: &[i64], hints: &[u16], n: usize, k: usize) -> bool
-    requires { NoneAgain rows.now n }
-    ensures { result ≡ dangles_at edition rows.now n k }
+pub fn dangles(edition: Edition, rows: Rows, k: usize) -> bool
+    ensures { result ≡ dangles_at edition rows.entry.numbers.now rows.entry.n k }
 {
-    let mut c: usize = 2;
-    while c < 12 {
-        if number_misses(edition, rows, hints, n, k, c) {
+    for c in 2..12 {
+        if number_misses(edition, rows, k, c) {
             return true;
         }
-        c += 1;
     }
     false
 }

@@ -1,5 +1,5 @@
 -- Lengths filled into the rows of blocks: the loop, and what the table then holds. Assumes nothing.
-use Prim.Native.Nat.{ℕ, zero, suc, ◌+◌, ◌-◌, ◌*◌, ◌/◌, ◌≤◌, ◌<◌, min}
+use Prim.Native.Nat.{ℕ, zero, suc, ◌+◌, ◌-◌, ◌*◌, ◌/◌, ◌≤◌, ◌<◌}
 use mathlib.Core.Bool.{Bool, true, false, cond, ◌&&◌}
 use mathlib.Core.List.{List}
 use mathlib.Core.Logic.{⊎_elim}
@@ -12,13 +12,12 @@ use lib.Dec.{ltb}
 use lib.IntN.{ℤ, pos}
 use lib.ListN.{length, set, length-set}
 use lib.Seq.{get_or-set_same, get_or-set_other}
-use Rattle.signed.specs.Signed.{same_z, signed_of, largest}
+use Rattle.signed.specs.Signed.{same_z}
 use Rattle.text.proofs.Cases.{eq-or-ne}
-use Rattle.unit.specs.Time.{capped}
 use Rattle.unit.specs.declared.Rasters.{Rasters}
 use Rattle.shape.specs.declared.Edition.{Edition}
 use Rattle.tables.specs.Tables.{number_at}
-use Rattle.blocks.specs.Blocks.{block_length, is_block}
+use Rattle.blocks.specs.Blocks.{is_block}
 use Rattle.rules.specs.Filled.{length_number, with_length, filled}
 use Rattle.rules.proofs.Alike.{Alike, block_same}
 
@@ -30,12 +29,6 @@ number-other table k z j c h = rw (length-set table (k * 12 + 9) z, get_or-set_o
 number-set : (table : List ℤ) (k : ℕ) (z : ℤ) → k < length table / 12 → number_at (set table (k * 12 + 9) z) k 9 ≡ z
 unfolding number_at
 number-set table k z h = rw (length-set table (k * 12 + 9) z, lt-ltb k (length table / 12) h, get_or-set_same table (k * 12 + 9) z (pos 0) (omega arith))
-
--- ---- the length as a number
-pub length-number : (e : Edition) (q : Rasters) (rows : List ℤ) (n : ℕ) (samples : List ℤ) (k ns : ℕ) (r : ℤ) → ns ≡ capped (block_length e q rows n samples k)
-    → r ≡ signed_of false (min ns largest) → r ≡ length_number e q rows n samples k
-unfolding length_number signed_of
-length-number e q rows n samples k ns r p s = s ∙ rw p (ap pos (omega arith))
 
 module _ (e : Edition) (q : Rasters) (rows : List ℤ) (n : ℕ) (samples : List ℤ) where
   -- ---- one row

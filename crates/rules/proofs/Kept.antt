@@ -1,5 +1,5 @@
 -- Rules that no row breaks, where each row was asked for all of them at once. Assumes nothing.
-use Prim.Native.Nat.{ℕ, ◌≤◌, ◌<◌}
+use Prim.Native.Nat.{ℕ, ◌≤◌, ◌<◌, min}
 use mathlib.Core.Bool.{Bool, true, false, ◌||◌, or-false, or-true, true≢false}
 use mathlib.Core.List.{List}
 use mathlib.Core.Logic.{⊎_elim}
@@ -39,20 +39,12 @@ by-edition V14 q rows n samples k p = rw p
 
 -- ---- whether row k breaks any rule but USE, by the answers of the code's tests
 module _ (e : Edition) (q : Rasters) (rows : List ℤ) (n : ℕ) (samples : List ℤ) (k : ℕ) where
-  module _ {a : Bool} (p : a ≡ dangles_at e rows n k) where
-    pub other-reference : a ≡ true → true ≡ breaks_other e q rows n samples k
-    unfolding breaks_other is_broken
-    other-reference h = rw (← p, h)
-
-    module _ (x : a ≡ false) {b : Bool} (r : b ≡ loops_at rows n k) where
-      pub other-loop : b ≡ true → true ≡ breaks_other e q rows n samples k
-      unfolding breaks_other is_broken
-      other-loop h = rw (← p, x, ← r, h)
-
-      -- a row that is no block can break no other rule
-      pub other-align : b ≡ false → {d : Bool} → d ≡ align_broken e q rows k → {kind : ℤ} → kind ≡ number_at rows k 0 → same_z kind (pos 1) ≡ false → d ≡ breaks_other e q rows n samples k
-      unfolding breaks_other is_broken
-      other-align y {d} t {kind} i f = rw (← p, x, ← r, y, ← t, ← long-other q rows n samples k kind i e f, ← no-outlasts e q rows n samples k kind i f) (sym (or-false d))
+  -- a row that is no block can break no other rule
+  pub other-align : {a : Bool} → a ≡ dangles_at e rows n k → a ≡ false → {b : Bool} → b ≡ loops_at rows n k → b ≡ false → {d : Bool} → d ≡ align_broken e q rows k
+      → {kind : ℤ} → kind ≡ number_at rows k 0 → same_z kind (pos 1) ≡ false → d ≡ breaks_other e q rows n samples k
+  unfolding breaks_other is_broken
+  other-align p x r y {d} t {kind} i f =
+      rw (← p, x, ← r, y, ← t, ← long-other q rows n samples k kind i e f, ← no-outlasts e q rows n samples k kind i f) (sym (or-false d))
 
   -- a block can break no other rule than those that are asked of it
   pub other_block : number_at rows k 0 ≡ pos 1 → {r : Bool} → r ≡ block_breaks e q rows n samples k → r ≡ breaks_other e q rows n samples k
@@ -116,11 +108,14 @@ module _ (a b : ℕ → Bool) where
     neither : (j : ℕ) → j < x → j < y → either j ≡ false
     neither j h k = rw (f.before j (omega arith) (rw (← p) h), g.before j (omega arith) (rw (← q) k))
 
-    pub earlier-left : x < y → x ≡ first_such either 0 n
+    earlier-left : x < y → x ≡ first_such either 0 n
     earlier-left h =
         let m = g.most in
         either_is n x (let l = f.most in omega arith) (λ j k. neither j k (omega arith)) (λ (k : x < n). rw p (rw (f.here (rw (← p) (omega arith)))))
 
-    pub earlier-right : y ≤ x → y ≡ first_such either 0 n
+    earlier-right : y ≤ x → y ≡ first_such either 0 n
     earlier-right h =
         either_is n y (let l = g.most in omega arith) (λ j k. neither j (omega arith) k) (λ (k : y < n). rw q (rw (g.here (rw (← q) (omega arith))) (or-true (a (first_such b 0 n)))))
+
+    pub earlier_is : {r : ℕ} → r ≡ min x y → r ≡ first_such either 0 n
+    earlier_is e = ⊎_elim (λ (h : x < y). let l : min x y ≡ x = omega arith in e ∙ l ∙ earlier-left h) (λ (h : y ≤ x). let l : min x y ≡ y = omega arith in e ∙ l ∙ earlier-right h) (lt-or-ge x y)

@@ -2,18 +2,21 @@
 // the tables hold when all have passed: a block's length.
 #![tactic(auto)]
 
-ghost use Rattle.tables.specs.Tables.{first_such, NoneAgain};
 ghost use Rattle.std.specs.Prelude.{◌≡◌};
+ghost use Rattle.tables.specs.Tables.{first_such, NoneAgain};
 ghost use Rattle.blocks.specs.Inside.{Timed};
 ghost use Rattle.rules.specs.Rules.{rule_number, align_broken, outlasts_broken, is_broken, first_broken};
 ghost use Rattle.rules.specs.Inside.{breaks_other, breaks_any};
 ghost use Rattle.rules.specs.Filled.{length_number, with_length, filled};
 
+use blocks::Timing;
+use finding::Rows;
 use shape::Edition;
+use tables::BLOCK;
 use unit::Rasters;
 
 // What is asked of each row, in the paper's order.
-#[derive(Clone, Copy)]
+#[derive(Clone, Copy, PartialEq, Eq)]
 pub enum Rule {
     Reference,
     Loop,
@@ -53,18 +56,15 @@ fn breaks_align(edition: Edition, rasters: Rasters, rows: &[i64], k: usize) -> b
 fn breaks_outlasts(
     edition: Edition,
     rasters: Rasters,
-    rows: &[i64],
-    hints: &[u16],
-    n: usize,
+    rows: Rows,
     samples: &[i64],
     k: usize,
 ) -> bool
-    requires { NoneAgain rows.now n }
-    ensures { result ≡ outlasts_broken edition rasters rows.now n samples.now k }
+    ensures { result ≡ outlasts_broken edition rasters rows.entry.numbers.now rows.entry.n samples.now k }
 {
     match edition {
         Edition::V13 => false,
-        Edition::V14 => blocks::outlasts(rasters, rows, hints, n, samples, k),
+        Edition::V14 => blocks::outlasts(rasters, rows, samples, k),
     }
 }
 
@@ -73,22 +73,19 @@ pub fn is_broken(
     rule: Rule,
     edition: Edition,
     rasters: Rasters,
-    rows: &[i64],
-    hints: &[u16],
-    n: usize,
+    rows: Rows,
     samples: &[i64],
     k: usize,
 ) -> bool
-    requires { NoneAgain rows.now n }
-    ensures { result ≡ is_broken rule edition rasters rows.now n samples.now k }
+    ensures { result ≡ is_broken rule edition rasters rows.entry.numbers.now rows.entry.n samples.now k }
 {
     match rule {
-        Rule::Reference => references::dangles(edition, rows, hints, n, k),
-        Rule::Loop => chains::loops(rows, hints, n, k),
-        Rule::Use => events::misfits(rows, hints, n, samples, k),
-        Rule::Align => breaks_align(edition, rasters, rows, k),
-        Rule::Long => blocks::is_long(edition, rasters, rows, hints, n, samples, k),
-        Rule::Outlasts => breaks_outlasts(edition, rasters, rows, hints, n, samples, k),
+        Rule::Reference => references::dangles(edition, rows, k),
+        Rule::Loop => chains::loops(rows, k),
+        Rule::Use => events::misfits(rows, samples, k),
+        Rule::Align => breaks_align(edition, rasters, rows.numbers, k),
+        Rule::Long => blocks::is_long(edition, rasters, rows, samples, k),
+        Rule::Outlasts => breaks_outlasts(edition, rasters, rows, samples, k),
     }
 }
 
@@ -96,70 +93,40 @@ pub fn is_broken(
 fn breaks_other(
     edition: Edition,
     rasters: Rasters,
-    rows: &[i64],
-    hints: &[u16],
-    n: usize,
+    timing: Timing,
     samples: &[i64],
     k: usize,
-    timed: bool,
 ) -> bool
-    requires none_again { NoneAgain rows.now n }
-    requires timed { Timed timed rows.now n }
-    ensures { result ≡ breaks_other edition rasters rows.now n samples.now k }
+    ensures { result ≡ breaks_other edition rasters timing.entry.rows.numbers.now timing.entry.rows.n samples.now k }
 {
-    if signed::same(tables::number(rows, k, 0), 1) {
-        return blocks::block_breaks(edition, rasters, rows, hints, n, samples, k, timed);
+    let rows = timing.rows;
+    if rows.number(k, 0) == BLOCK {
+        return blocks::block_breaks(edition, rasters, timing, samples, k);
     }
-    if references::dangles(edition, rows, hints, n, k) {
-        return true;
-    }
-    if chains::loops(rows, hints, n, k) {
-        return true;
-    }
-    breaks_align(edition, rasters, rows, k)
+    references::dangles(edition, rows, k)
+        || chains::loops(rows, k)
+        || breaks_align(edition, rasters, rows.numbers, k)
 }
 
 // The first of n rows that breaks any rule but USE; n if none does. Each row is looked at once.
-fn first_other(
-    edition: Edition,
-    rasters: Rasters,
-    rows: &[i64],
-    hints: &[u16],
-    n: usize,
-    samples: &[i64],
-) -> usize
-    requires { NoneAgain rows.now n }
-    ensures { result ≡ first_such (breaks_other edition rasters rows.now n samples.now) 0 n }
+fn first_other(edition: Edition, rasters: Rasters, timing: Timing, samples: &[i64]) -> usize
+    ensures { result ≡ first_such (breaks_other edition rasters timing.entry.rows.numbers.now timing.entry.rows.n samples.now) 0 timing.entry.rows.n }
 {
-    let timed = blocks::has_triggers(rows, n);
-    let mut k: usize = 0;
-    while k < n {
-        if breaks_other(edition, rasters, rows, hints, n, samples, k, timed) {
+    for k in 0..timing.rows.n {
+        if breaks_other(edition, rasters, timing, samples, k) {
             return k;
         }
-        k += 1;
     }
-    n
+    timing.rows.n
 }
 
 // The first of n rows that breaks any rule; n if none does. USE is asked apart, since it looks at each shape once and not at each event's.
-pub fn first_breaking(
-    edition: Edition,
-    rasters: Rasters,
-    rows: &[i64],
-    hints: &[u16],
-    n: usize,
-    samples: &[i64],
-) -> usize
-    requires { NoneAgain rows.now n }
-    ensures { result ≡ first_such (breaks_any edition rasters rows.now n samples.now) 0 n }
+pub fn first_breaking(edition: Edition, rasters: Rasters, rows: Rows, samples: &[i64]) -> usize
+    ensures { result ≡ first_such (breaks_any edition rasters rows.entry.numbers.now rows.entry.n samples.now) 0 rows.entry.n }
 {
-    let other = first_other(edition, rasters, rows, hints, n, samples);
-    let misfit = events::first_misfit(rows, hints, n, samples);
-    if other < misfit {
-        return other;
-    }
-    misfit
+    let timed = blocks::has_triggers(rows.numbers, rows.n);
+    let other = first_other(edition, rasters, Timing { rows, timed }, samples);
+    other.min(events::first_misfit(rows, samples))
 }
 
 // The first of n rows that breaks a rule; n if none does.
@@ -167,44 +134,34 @@ pub fn first_broken(
     rule: Rule,
     edition: Edition,
     rasters: Rasters,
-    rows: &[i64],
-    hints: &[u16],
-    n: usize,
+    rows: Rows,
     samples: &[i64],
 ) -> usize
-    requires { NoneAgain rows.now n }
-    ensures { result ≡ first_broken rule edition rasters rows.now n samples.now }
+    ensures { result ≡ first_broken rule edition rasters rows.entry.numbers.now rows.entry.n samples.now }
 {
-    if rule.number() == 14 {
-        return events::first_misfit(rows, hints, n, samples);
+    if rule == Rule::Use {
+        return events::first_misfit(rows, samples);
     }
-    let mut k: usize = 0;
-    while k < n {
-        if is_broken(rule, edition, rasters, rows, hints, n, samples, k) {
+    for k in 0..rows.n {
+        if is_broken(rule, edition, rasters, rows, samples, k) {
             return k;
         }
-        k += 1;
     }
-    n
+    rows.n
 }
 
 // How long block k lasts, as a number of its row.
 fn length_number(
     edition: Edition,
     rasters: Rasters,
-    rows: &[i64],
-    hints: &[u16],
-    n: usize,
+    timing: Timing,
     samples: &[i64],
     k: usize,
-    timed: bool,
 ) -> i64
-    requires none_again { NoneAgain rows.now n }
-    requires timed { Timed timed rows.now n }
-    ensures { result ≡ length_number edition rasters rows.now n samples.now k }
+    ensures { result ≡ length_number edition rasters timing.entry.rows.numbers.now timing.entry.rows.n samples.now k }
 {
-    let ns = blocks::block_length(edition, rasters, rows, hints, n, samples, k, timed);
-    signed::with_sign(false, ns.0)
+    let ns = blocks::block_length(edition, rasters, timing, samples, k);
+    i64::try_from(ns.0).unwrap_or(i64::MAX)
 }
 
 // Writes its length into row k, if that is a block.
@@ -222,12 +179,15 @@ fn fill_row(
     requires timed { Timed timed rows.old n }
     ensures { rows.new ≡ with_length edition rasters rows.old n samples.now rows.old k }
 {
-    if k < rows.len() / 12 {
-        if signed::same(tables::number(rows, k, 0), 1) {
-            let ns = length_number(edition, rasters, rows, hints, n, samples, k, timed);
-            let i = k * 12 + 9;
-            rows[i] = ns;
-        }
+    if k < rows.len() / 12 && tables::number(rows, k, 0) == BLOCK {
+        let table = Rows {
+            numbers: rows,
+            hints,
+            n,
+        };
+        let timing = Timing { rows: table, timed };
+        let ns = length_number(edition, rasters, timing, samples, k);
+        rows[k * 12 + 9] = ns;
     }
 }
 
@@ -254,9 +214,7 @@ pub fn fill_lengths(
     ensures { rows.new ≡ filled edition rasters rows.old n samples.now rows.old 0 n }
 {
     let timed = is_timed(edition, rows, n);
-    let mut k: usize = 0;
-    while k < n {
+    for k in 0..n {
         fill_row(edition, rasters, rows, hints, n, samples, k, timed);
-        k += 1;
     }
 }

@@ -8,6 +8,7 @@ use native.Mathlib.Nat.{eq-or-lt_of_le}
 use native.Mathlib.Numerals.{add-one}
 use native.Mathlib.Omega.{arith}
 use borrow.Author.Tests.{ltb-false}
+use Rattle.std.specs.Coded.{Π_prop, Coded-set, coded_ℕ}
 use lib.IntN.{ℤ}
 use Rattle.signed.specs.Signed.{same_z}
 use Rattle.signed.proofs.Sign.{same_z-refl, same_z-true}
@@ -111,6 +112,11 @@ unfolding NoneAgain is_row_of
 row-once rows n class id k once h e =
     let b = and_both (same_z (class_at rows k) class) (same_z (number_at rows k 1) id) e in
     sym (rw (same_z-true (class_at rows k) class b.0, same_z-true (number_at rows k 1) id b.1) at (once k h))
+
+-- that none repeats one has one proof, so that a struct can hold it
+pub NoneAgain-prop : (rows : List ℤ) (n : ℕ) → IsProp (NoneAgain rows n)
+unfolding NoneAgain
+NoneAgain-prop rows n = Π_prop (λ k. Π_prop (λ h. Coded-set coded_ℕ (first_row rows n (class_at rows k) (number_at rows k 1)) k))
 
 -- where the first row that repeats one is none of n rows, none does
 pub first-none : (rows : List ℤ) (n : ℕ) {r : ℕ} → r ≡ first_again rows n → n ≤ r → NoneAgain rows n

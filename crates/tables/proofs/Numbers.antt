@@ -1,52 +1,24 @@
 -- Numbers and classes of rows, by the answers of the code's tests. Assumes nothing.
-use Prim.Native.Nat.{ℕ, ◌+◌, ◌*◌, ◌/◌, ◌≤◌, ◌<◌}
-use mathlib.Core.Bool.{Bool, true, false, cond, ◌&&◌, and-true, and-false}
+use Prim.Native.Nat.{ℕ, ◌+◌, ◌*◌, ◌/◌, ◌<◌}
+use mathlib.Core.Bool.{Bool, true, false, and-true, and-false}
 use mathlib.Core.List.{List}
-use mathlib.Core.Path.{◌≡◌, refl, sym}
-use borrow.Author.Tests.{lt-ltb, le-ltb}
-use lib.Dec.{ltb}
+use mathlib.Core.Path.{◌≡◌, refl, sym, ap, ◌∙◌}
+use borrow.Author.Tests.{lt-ltb, eq-eqb, ne_eqb}
+use lib.Dec.{eqb}
 use lib.IntN.{ℤ, pos}
 use lib.ListN.{length, get_or}
+use mir.Syntax.{w64}
+use mir.Val.{SFits, of_z}
 use Rattle.signed.specs.Signed.{same_z}
-use Rattle.tables.specs.Tables.{number_at, class_of, class_at, is_row_of}
+use Rattle.signed.proofs.Machine.{bits-inj}
+use Rattle.signed.proofs.Sign.{same_z-true, same_z-false}
+use Rattle.tables.specs.Tables.{number_at, class_at, is_row_of}
 
 -- ---- numbers
 module _ (rows : List ℤ) (k c : ℕ) where
-  no_row : (a : Bool) → pos 0 ≡ cond (a && false) (get_or rows (k * 12 + c) (pos 0)) (pos 0)
-  no_row true = refl
-  no_row false = refl
-
-  pub number-beyond : 12 ≤ c → pos 0 ≡ number_at rows k c
-  unfolding number_at
-  number-beyond h = rw (le-ltb c 12 h) (no_row (ltb k (length rows / 12)))
-
-  pub number-none : length rows / 12 ≤ k → pos 0 ≡ number_at rows k c
-  unfolding number_at
-  number-none h = rw (le-ltb k (length rows / 12) h)
-
   pub number-there : k < length rows / 12 → c < 12 → get_or rows (k * 12 + c) (pos 0) ≡ number_at rows k c
   unfolding number_at
   number-there h l = rw (lt-ltb k (length rows / 12) h, lt-ltb c 12 l)
-
--- ---- classes, of a row whose kind was read
-module _ (rows : List ℤ) (k : ℕ) (kind : ℤ) (p : kind ≡ number_at rows k 0) where
-  pub class-trap : same_z kind (pos 4) ≡ true → pos 3 ≡ class_at rows k
-  unfolding class_at class_of
-  class-trap e = rw (← p, e)
-
-  module _ (e : same_z kind (pos 4) ≡ false) where
-    pub class-other : same_z kind (pos 10) ≡ false → kind ≡ class_at rows k
-    unfolding class_at class_of
-    class-other f = rw (← p, e, f)
-
-    module _ (f : same_z kind (pos 10) ≡ true) (second : ℤ) (q : second ≡ number_at rows k 2) where
-      pub class-increment : same_z second (pos 1) ≡ true → pos 12 ≡ class_at rows k
-      unfolding class_at class_of
-      class-increment g = rw (← p, ← q, e, f, g)
-
-      pub class-set : same_z second (pos 1) ≡ false → kind ≡ class_at rows k
-      unfolding class_at class_of
-      class-set g = rw (← p, ← q, e, f, g)
 
 -- ---- a row of a class with an ID, which is looked at first
 module _ (rows : List ℤ) (class id : ℤ) (k : ℕ) (own : ℤ) (p : own ≡ number_at rows k 1) where
@@ -61,3 +33,11 @@ module _ (rows : List ℤ) (class id : ℤ) (k : ℕ) (own : ℤ) (p : own ≡ n
 -- what was compared, as it was read
 pub compared : {r : Bool} (a b x y : ℤ) → r ≡ same_z x y → x ≡ a → y ≡ b → same_z a b ≡ r
 compared a b x y e p q = sym (rw (p, q) at e)
+
+-- what the machine compares, the bits
+pub same-bits : (a b : ℤ) → SFits w64 a → SFits w64 b → eqb (of_z w64 a) (of_z w64 b) ≡ same_z a b
+same-bits a b f g = go (same_z a b) refl
+  where
+    go : (t : Bool) → same_z a b ≡ t → eqb (of_z w64 a) (of_z w64 b) ≡ same_z a b
+    go true e = eq-eqb _ _ (ap (of_z w64) (same_z-true a b e)) ∙ sym e
+    go false e = ne_eqb _ _ (λ q. same_z-false a b e (bits-inj f g q)) ∙ sym e

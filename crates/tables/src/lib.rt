@@ -4,6 +4,35 @@
 ghost use Rattle.std.specs.Prelude.{◌≡◌, pos, take, drop};
 ghost use Rattle.tables.specs.Tables.{number_at, class_number, class_at, is_row_of, first_row, is_again, samples_at};
 
+// The kinds of rows, each row's first number. The class of an ID has the number of its rows' kind, but traps are of the class of gradients, and
+// labels that are incremented have a class of their own.
+pub const BLOCK: i64 = 1;
+
+pub const RF: i64 = 2;
+
+pub const GRADIENT: i64 = 3;
+
+pub const TRAP: i64 = 4;
+
+pub const ADC: i64 = 5;
+
+pub const DELAY: i64 = 6;
+
+pub const ENTRY: i64 = 7;
+
+pub const EXTENSION: i64 = 8;
+
+pub const TRIGGER: i64 = 9;
+
+pub const LABEL: i64 = 10;
+
+pub const SHAPE: i64 = 11;
+
+pub const INCREMENT: i64 = 12;
+
+// 1 in steps of 10^-12, in which samples are counted.
+pub const ONE: u64 = 1_000_000_000_000;
+
 // What an ID is unique in.
 #[derive(Clone, Copy)]
 pub enum Class {
@@ -24,32 +53,28 @@ pub enum Class {
 pub fn number(rows: &[i64], k: usize, c: usize) -> i64
     ensures { result ≡ number_at rows.now k c }
 {
-    if 11 < c {
-        return 0;
-    }
-    if k < rows.len() / 12 {
-        let i = k * 12 + c;
-        return rows[i];
+    if c < 12 && k < rows.len() / 12 {
+        return rows[k * 12 + c];
     }
     0
 }
 
-// The number of a class: the kind of its rows, 3 for gradients and traps, 12 for labels that are incremented.
+// The number of a class: the kind of its rows, that of gradients for traps too.
 pub fn class_number(class: Class) -> i64
     ensures { result ≡ pos (class_number class) }
 {
     match class {
-        Class::Block => 1,
-        Class::Rf => 2,
-        Class::Gradient => 3,
-        Class::Adc => 5,
-        Class::Delay => 6,
-        Class::Entry => 7,
-        Class::Extension => 8,
-        Class::Trigger => 9,
-        Class::Set => 10,
-        Class::Shape => 11,
-        Class::Increment => 12,
+        Class::Block => BLOCK,
+        Class::Rf => RF,
+        Class::Gradient => GRADIENT,
+        Class::Adc => ADC,
+        Class::Delay => DELAY,
+        Class::Entry => ENTRY,
+        Class::Extension => EXTENSION,
+        Class::Trigger => TRIGGER,
+        Class::Set => LABEL,
+        Class::Shape => SHAPE,
+        Class::Increment => INCREMENT,
     }
 }
 
@@ -57,38 +82,34 @@ pub fn class_number(class: Class) -> i64
 pub fn row_class(rows: &[i64], k: usize) -> i64
     ensures { result ≡ class_at rows.now k }
 {
-    let kind = number(rows, k, 0);
-    if signed::same(kind, 4) {
-        return 3;
-    }
-    if signed::same(kind, 10) {
-        if signed::same(number(rows, k, 2), 1) {
-            return 12;
+    match number(rows, k, 0) {
+        TRAP => GRADIENT,
+        LABEL => {
+            if number(rows, k, 2) == 1 {
+                INCREMENT
+            } else {
+                LABEL
+            }
         }
+        kind => kind,
     }
-    kind
 }
 
 // Is row k the one of this class with this ID?
 pub fn is_row_of(rows: &[i64], k: usize, class: i64, id: i64) -> bool
     ensures { result ≡ is_row_of rows.now class id k }
 {
-    if signed::same(number(rows, k, 1), id) {
-        return signed::same(row_class(rows, k), class);
-    }
-    false
+    number(rows, k, 1) == id && row_class(rows, k) == class
 }
 
 // The first of n rows that is of this class and has this ID; n if none is.
 pub fn find(rows: &[i64], n: usize, class: i64, id: i64) -> usize
     ensures { result ≡ first_row rows.now n class id }
 {
-    let mut k: usize = 0;
-    while k < n {
+    for k in 0..n {
         if is_row_of(rows, k, class, id) {
             return k;
         }
-        k += 1;
     }
     n
 }
@@ -106,21 +127,15 @@ pub fn is_again(rows: &[i64], k: usize) -> bool
 fn part(samples: &[i64], from: usize, count: usize) -> &[i64]
     ensures { result.now ≡ take count (drop from samples.now) }
 {
-    if samples.len() <= from {
-        return &samples[..0];
-    }
-    if samples.len() - from <= count {
-        return &samples[from..];
-    }
-    let end = from + count;
-    &samples[from..end]
+    let rest = samples.get(from..).unwrap_or(&[]);
+    rest.get(..count).unwrap_or(rest)
 }
 
 // The samples of the shape of row k: those that it counts from its place on.
 pub fn samples_at<'a>(rows: &[i64], k: usize, samples: &'a [i64]) -> &'a [i64]
     ensures { result.now ≡ samples_at rows.now k samples.now }
 {
-    let count = signed::size(number(rows, k, 2)) as usize;
-    let from = signed::size(number(rows, k, 3)) as usize;
+    let count = number(rows, k, 2).unsigned_abs() as usize;
+    let from = number(rows, k, 3).unsigned_abs() as usize;
     part(samples, from, count)
 }

@@ -3,11 +3,8 @@ use Rattle.again.specs.Inside.{id_at, Noted}
 use Rattle.tables.specs.Tables.{class_at}
 use lib.ListN.{length}
 use mathlib.Core.Path.{◌≡◌}
-use Prim.Native.Nat.{◌-◌, ◌≤◌}
+use Prim.Native.Nat.{◌≤◌}
 use Rattle.again.proofs.note_rows.Given as goal
 
 abbrev pub invariant-loop-k : goal.invariant-loop-k
 invariant-loop-k l = (l.k ≤ l.n) × ((length l.most ≡ length l.initial.most) × Noted (class_at l.rows) (id_at l.rows) l.most l.k)
-
-abbrev pub decreases-loop-k : goal.decreases-loop-k
-decreases-loop-k l = l.n - l.k

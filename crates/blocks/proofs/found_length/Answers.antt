@@ -1,18 +1,18 @@
 -- `blocks::found_length` meets its contract. Assumes nothing.
-use mathlib.Core.Path.{sym, ◌∙◌}
-use Rattle.signed.proofs.Machine.{rd-is}
-use Rattle.blocks.proofs.Lasting.{found-untimed, found-chain, found-event}
+use Rattle.std.proofs.Common.{◌≡◌, pos, true, refl, arith}
+use Rattle.signed.specs.Signed.{same_z}
+use Rattle.blocks.specs.Inside.{found_length}
+use Rattle.blocks.proofs.Lasting.{found-untimed}
 use Rattle.blocks.proofs.found_length.Goals as goal
 
-pub returns-then-not-timed : goal.returns-then-not-timed
-returns-then-not-timed c = let s = c.before.before in
-    let a = s.before.before in
-    found-untimed _ _ _ _ (rd-is a.ranges.class) _ (sym s.same.ensures ∙ c.if-same.true) (c.if-not-timed.true) a.requires.timed
+pub returns-then-class-ne-ENTRY : goal.returns-then-class-ne-ENTRY
+unfolding found_length same_z
+returns-then-class-ne-ENTRY c = grind arith
 
-pub returns-then-same : goal.returns-then-same
-returns-then-same c = let s = c.before.before.before in
-    c.chain_length.ensures ∙ found-chain _ _ _ _ (rd-is s.ranges.class) _ (sym s.same.ensures ∙ c.if-same.true)
+pub returns-then-timing : goal.returns-then-timing
+unfolding found_length same_z
+returns-then-timing c = grind arith
 
 pub returns : goal.returns
-returns c = let s = c.before.before in
-    c.row_length.ensures ∙ found-event _ _ _ _ (rd-is s.ranges.class) _ (sym s.same.ensures ∙ c.if-same.false)
+unfolding same_z
+returns c = let chain : same_z c.args.class (pos 7) ≡ true = grind arith in found-untimed _ _ _ _ refl _ chain c.if-timing.false c.args.timing.told

@@ -1,27 +1,24 @@
-use mathlib.Core.Path.{◌∙◌}
-use native.Mathlib.Omega.{arith}
-use Rattle.signed.proofs.Machine.{rd-at}
+use Rattle.std.proofs.Common.{◌≡◌, true, false, arith, ◌∙◌}
+use Rattle.signed.specs.Signed.{same_z}
 use Rattle.tables.proofs.Found.{such-start, such-here, such-further, such-none}
-use Rattle.blocks.proofs.Timeless.{trigger-is, triggers-yes, triggers-no}
+use Rattle.blocks.specs.Inside.{is_trigger}
+use Rattle.blocks.proofs.Timeless.{triggers-yes, triggers-no}
 use Rattle.blocks.proofs.has_triggers.Goals as goal
 
-pub loop-at-init : goal.loop-at-init
-loop-at-init c = (omega arith, such-start _ _)
+pub loop-k-init : goal.loop-k-init
+loop-k-init c = such-start _ _
 
-pub returns-then-same : goal.returns-then-same
-returns-then-same c = let s = c.before in
-    let m = s.before in
-    let l = m.before in
-    triggers-yes _ _ _ (such-here _ _ _ l.loop-at-test.true (trigger-is _ _ m.number.ensures (rd-at _ m.number.type_inv) s.same.ensures ∙ c.if-same.true) ∙ l.loop-at.invariant.1) l.loop-at-test.true
+pub returns-then-number-eq-TRIGGER : goal.returns-then-number-eq-TRIGGER
+unfolding is_trigger same_z
+returns-then-number-eq-TRIGGER c =
+    let here : is_trigger c.args.rows.now c.loop-k.k ≡ true = grind arith in
+    triggers-yes _ _ _ (such-here _ _ _ c.loop-k-test.true here ∙ c.loop-k.invariant) c.loop-k-test.true
 
-pub loop-at-smaller : goal.loop-at-smaller
-loop-at-smaller c = omega (arith, c.loop-at-test.true)
-
-pub loop-at-preserved : goal.loop-at-preserved
-loop-at-preserved c = let s = c.before in
-    let m = s.before in
-    let l = m.before in
-    (omega (arith, l.loop-at-test.true), such-further _ _ _ l.loop-at-test.true (trigger-is _ _ m.number.ensures (rd-at _ m.number.type_inv) s.same.ensures ∙ c.if-same.false) ∙ l.loop-at.invariant.1)
+pub loop-k-preserved : goal.loop-k-preserved
+unfolding is_trigger same_z
+loop-k-preserved c =
+    let not-here : is_trigger c.args.rows.now c.loop-k.k ≡ false = grind arith in
+    such-further _ _ _ c.loop-k-test.true not-here ∙ c.loop-k.invariant
 
 pub returns : goal.returns
-returns c = triggers-no _ _ (such-none _ _ _ c.loop-at.invariant.0 c.loop-at-test.false ∙ c.loop-at.invariant.1)
+returns c = triggers-no _ _ (such-none _ _ _ (omega arith) c.loop-k-test.false ∙ c.loop-k.invariant)

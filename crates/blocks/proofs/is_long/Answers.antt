@@ -1,21 +1,18 @@
 -- `blocks::is_long` meets its contract. Assumes nothing.
-use mathlib.Core.Path.{refl, ◌∙◌}
-use Rattle.signed.proofs.Machine.{rd-at}
-use Rattle.tables.proofs.Numbers.{compared}
+use Rattle.std.proofs.Common.{◌≡◌, pos, true, arith}
+use Rattle.signed.specs.Signed.{same_z}
+use Rattle.blocks.specs.Blocks.{is_long}
 use Rattle.blocks.proofs.Timeless.{timed-all}
-use Rattle.blocks.proofs.Lasting.{long-block, long-other}
+use Rattle.blocks.proofs.Lasting.{long-block}
 use Rattle.blocks.proofs.is_long.Goals as goal
 
-pub block_length-ns-requires : goal.block_length-ns-requires
-block_length-ns-requires c = record { none_again = c.requires; timed = timed-all _ _ }
+pub returns-then-number-ne-BLOCK : goal.returns-then-number-ne-BLOCK
+unfolding is_long same_z
+returns-then-number-ne-BLOCK c = grind arith
 
-pub returns-then-same : goal.returns-then-same
-returns-then-same c = let b = c.before in
-    let s = b.before.before in
-    let m = s.number in
-    long-block _ _ _ _ _ _ m.ensures _ (compared _ _ _ _ s.same.ensures (rd-at _ m.type_inv) refl ∙ b.if-same.true) _ _ b.block_length-ns.ensures c.exceeds.ensures
+pub invariant_of-timing : goal.invariant_of-timing
+invariant_of-timing c = record { told = timed-all _ _ }
 
 pub returns : goal.returns
-returns c = let s = c.before in
-    let m = s.number in
-    long-other _ _ _ _ _ _ m.ensures _ (compared _ _ _ _ s.same.ensures (rd-at _ m.type_inv) refl ∙ c.if-same.false)
+unfolding same_z
+returns c = let block : same_z c.number.result (pos 1) ≡ true = grind arith in long-block _ _ _ _ _ _ c.number.ensures _ block _ _ c.block_length.ensures c.exceeds.ensures

@@ -1,10 +1,6 @@
 -- `blocks::some_breaks` meets its contract. The loop's invariant: a number breaks if one of those that are left does. Assumes nothing.
-use Prim.Native.Nat.{◌-◌}
 use Rattle.blocks.proofs.Asked.{Asking}
 use Rattle.blocks.proofs.some_breaks.Given as goal
 
 abbrev pub invariant-loop-number : goal.invariant-loop-number
-invariant-loop-number l = Asking l.edition l.rasters l.rows l.n l.samples l.k l.cap.0 l.number
-
-abbrev pub decreases-loop-number : goal.decreases-loop-number
-decreases-loop-number l = 9 - l.number
+invariant-loop-number l = Asking l.edition l.rasters l.timing.rows.numbers.now l.timing.rows.n l.samples l.k l.cap.0 l.number

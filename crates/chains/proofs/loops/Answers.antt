@@ -1,16 +1,14 @@
 -- `chains::loops` meets its contract. Assumes nothing.
-use mathlib.Core.Path.{refl, ◌∙◌}
-use Rattle.signed.proofs.Machine.{rd-at}
-use Rattle.tables.proofs.Numbers.{compared}
-use Rattle.chains.proofs.Following.{loops-entry, loops-other}
+use Rattle.std.proofs.Common.{arith}
+use Rattle.std.proofs.lemmas.Grind.{common_steps}
+use Rattle.signed.specs.Signed.{same_z}
+use Rattle.chains.specs.Chains.{loops_at}
 use Rattle.chains.proofs.loops.Goals as goal
 
-pub returns-then-same : goal.returns-then-same
-returns-then-same c = let s = c.before.before in
-    let m = s.before in
-    c.exceeds.ensures ∙ loops-entry _ _ _ _ m.number.ensures (compared _ _ _ _ s.same.ensures (rd-at _ m.number.type_inv) refl ∙ c.if-same.true)
+pub returns-then-number-eq-ENTRY : goal.returns-then-number-eq-ENTRY
+unfolding loops_at same_z
+returns-then-number-eq-ENTRY c = grind arith
 
-pub returns : goal.returns
-returns c = let s = c.before in
-    let m = s.before in
-    loops-other _ _ _ _ m.number.ensures (compared _ _ _ _ s.same.ensures (rd-at _ m.number.type_inv) refl ∙ c.if-same.false)
+pub returns-else-number-eq-ENTRY : goal.returns-else-number-eq-ENTRY
+unfolding loops_at same_z
+returns-else-number-eq-ENTRY c = grind (arith, common_steps)

@@ -3,4 +3,4 @@ use Rattle.events.proofs.Marking.{known_start}
 use Rattle.events.proofs.first_misfit.Goals as goal
 
 pub first_unfit-requires : goal.first_unfit-requires
-first_unfit-requires c = record { none_again = c.requires; known = known_start _ _ _ 163840 }
+first_unfit-requires c = known_start _ _ _ 163840

@@ -3,4 +3,4 @@ use Rattle.events.proofs.Marking.{known_start}
 use Rattle.events.proofs.misfits.Goals as goal
 
 pub is_unfit-requires : goal.is_unfit-requires
-is_unfit-requires c = record { none_again = c.requires; known = known_start _ _ _ 1 }
+is_unfit-requires c = known_start _ _ _ 1

@@ -1,24 +1,13 @@
-use mathlib.Core.Path.{refl, sym, ◌∙◌}
-use native.Mathlib.Omega.{arith}
+use Rattle.std.proofs.Common.{sym, arith, ◌∙◌}
 use Rattle.signed.proofs.Machine.{rd-at}
 use Rattle.events.proofs.Fitting.{rise-turn, rise-not, rise-end}
 use Rattle.events.proofs.rises.Goals as goal
 
-pub loop-i-init : goal.loop-i-init
-loop-i-init c = refl
-
 pub returns-then-not-follows : goal.returns-then-not-follows
-returns-then-not-follows c = let s = c.before in
-    let l = s.before.before in
-    rise-not _ _ l.loop-i-test.true _ (rd-at _ (omega arith)) _ (sym s.follows.ensures ∙ c.if-not-follows.true) ∙ l.loop-i.invariant
+returns-then-not-follows c = rise-not _ _ c.loop-z-test.true _ (rd-at _ (omega arith)) _ (sym c.follows.ensures ∙ c.if-not-follows.true) ∙ c.loop-z.invariant
 
-pub loop-i-smaller : goal.loop-i-smaller
-loop-i-smaller c = omega arith
-
-pub loop-i-preserved : goal.loop-i-preserved
-loop-i-preserved c = let s = c.before in
-    let l = s.before.before in
-    rise-turn _ _ l.loop-i-test.true _ (rd-at _ (omega arith)) _ (sym s.follows.ensures ∙ c.if-not-follows.false) ∙ l.loop-i.invariant
+pub loop-z-preserved : goal.loop-z-preserved
+loop-z-preserved c = rise-turn _ _ c.loop-z-test.true _ (rd-at _ (omega arith)) _ (sym c.follows.ensures ∙ c.if-not-follows.false) ∙ c.loop-z.invariant
 
 pub returns : goal.returns
-returns c = rise-end _ _ c.loop-i-test.false _ ∙ c.loop-i.invariant
+returns c = rise-end _ _ c.loop-z-test.false _ ∙ c.loop-z.invariant

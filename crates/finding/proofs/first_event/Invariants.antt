@@ -1,12 +1,8 @@
 -- `finding::first_event` meets its contract. The loop's invariant: the first such row is the first of those that are left. Assumes nothing.
-use Prim.Native.Nat.{◌-◌, ◌≤◌}
-use mathlib.Core.Path.{◌≡◌}
+use Rattle.std.proofs.Common.{◌-◌, ◌≡◌}
 use Rattle.tables.specs.Tables.{first_such}
 use Rattle.finding.specs.Hints.{is_event, first_event}
 use Rattle.finding.proofs.first_event.Given as goal
 
 abbrev pub invariant-loop-k : goal.invariant-loop-k
-invariant-loop-k l = (l.k ≤ l.n) × (first_such (is_event l.rows) l.k (l.n - l.k) ≡ first_event l.rows l.n)
-
-abbrev pub decreases-loop-k : goal.decreases-loop-k
-decreases-loop-k l = l.n - l.k
+invariant-loop-k l = first_such (is_event l.rows) l.k (l.n - l.k) ≡ first_event l.rows l.n

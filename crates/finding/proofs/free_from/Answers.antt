@@ -1,19 +1,20 @@
-use mathlib.Core.Path.{refl, ◌∙◌}
+use Rattle.std.proofs.Common.{◌≡◌, ◌+◌, ◌-◌, arith, ap, ◌∙◌}
+use Rattle.finding.specs.Hints.{free_from}
 use Rattle.finding.proofs.Noting.{free-end, free-here, free-out, free-further}
-use native.Mathlib.Omega.{arith}
+use Rattle.finding.proofs.free_from.Goals.{then-at-hints-via-then-at-hints, then-at-hints-via-else-at-hints+then-hints-at-eq0}
 use Rattle.finding.proofs.free_from.Goals as goal
 
-pub loop-left-init : goal.loop-left-init
-loop-left-init c = refl
+pub returns-then-at-hints : goal.returns-then-at-hints
+returns-then-at-hints c =
+    elim c.then-at-hints.branch [
+      | then-at-hints-via-then-at-hints w ↦ free-out _ _ _ (omega arith) w.if-at-hints.true ∙ c.loop-tried.invariant
+      | then-at-hints-via-else-at-hints+then-hints-at-eq0 w ↦ free-here _ _ _ (omega arith) w.if-hints-at-eq0.true ∙ c.loop-tried.invariant
+    ]
 
-pub returns-then-hints-at : goal.returns-then-hints-at
-returns-then-hints-at c = let l = c.before in free-out _ _ _ l.loop-left-test.true c.if-hints-at.true ∙ l.loop-left.invariant
-
-pub returns-then-hints-at-eq0 : goal.returns-then-hints-at-eq0
-returns-then-hints-at-eq0 c = let l = c.before.before.before in free-here _ _ _ l.loop-left-test.true c.if-hints-at-eq0.true ∙ l.loop-left.invariant
-
-pub loop-left-preserved : goal.loop-left-preserved
-loop-left-preserved c = let l = c.before.before.before in free-further _ _ _ l.loop-left-test.true c.if-hints-at-eq0.false ∙ l.loop-left.invariant
+pub loop-tried-preserved : goal.loop-tried-preserved
+loop-tried-preserved c =
+    let e : 64 - (c.loop-tried._tried + 1) ≡ 64 - c.loop-tried._tried - 1 = omega arith in
+    ap (free_from _ _) e ∙ free-further _ _ _ (omega arith) c.if-hints-at-eq0.false ∙ c.loop-tried.invariant
 
 pub returns : goal.returns
-returns c = free-end _ _ _ (omega (arith, c.loop-left-test.false)) ∙ c.loop-left.invariant
+returns c = free-end _ _ _ (omega arith) ∙ c.loop-tried.invariant

@@ -1,16 +1,8 @@
 -- `finding::group_of` meets its contract. Assumes nothing.
-use native.Mathlib.Omega.{arith}
+use Rattle.std.proofs.Common.{rules}
 use Rattle.finding.specs.Hints.{group_of}
 use Rattle.finding.proofs.group_of.Goals as goal
 
-pub returns-then-n-lt65535 : goal.returns-then-n-lt65535
-unfolding group_of
-returns-then-n-lt65535 c = omega (arith, c.if-n-lt65535.true)
-
-pub returns-then-most-gt1000000 : goal.returns-then-most-gt1000000
-unfolding group_of
-returns-then-most-gt1000000 c = omega (arith, c.if-most-gt1000000.true)
-
 pub returns : goal.returns
 unfolding group_of
-returns c = omega (arith, c.if-most-gt1000000.false)
+returns c = search rules

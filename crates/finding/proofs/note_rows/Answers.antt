@@ -1,17 +1,8 @@
-use Rattle.finding.proofs.Noting.{left-start, left-turn, left-all, left-long}
+use Rattle.finding.proofs.Noting.{left-turn, left-all}
 use Rattle.finding.proofs.note_rows.Goals as goal
 
-pub loop-k-init : goal.loop-k-init
-loop-k-init c = left-start _ _ _ _
-
 pub loop-k-preserved : goal.loop-k-preserved
-loop-k-preserved c =
-    let r = c.before.before in
-    let l = r.before.before in
-    left-turn l.loop-k.invariant r.note_row.ensures l.loop-k-test.true
-
-pub shape_of-hints : goal.shape_of-hints
-shape_of-hints c = left-long c.loop-k.invariant _ c.lay_base.ensures
+loop-k-preserved c = left-turn c.loop-k.invariant c.note_row.ensures c.loop-k-test.true
 
 pub returns : goal.returns
-returns c = let b = c.before.before in left-all c.loop-k.invariant _ b.lay_base.ensures b.base_in-base.ensures.0 c.loop-k-test.false
+returns c = left-all c.loop-k.invariant _ c.lay_base.ensures c.base_in-base.ensures.0 c.loop-k-test.false

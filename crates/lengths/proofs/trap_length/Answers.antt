@@ -3,6 +3,4 @@ use Rattle.lengths.proofs.Measured.{trap-is}
 use Rattle.lengths.proofs.trap_length.Goals as goal
 
 pub returns : goal.returns
-returns c = let e = c.before in
-    let s = e.before.before.before in
-    trap-is _ _ _ _ _ _ _ _ _ s.micros.ensures s.micros-2.ensures e.micros-3.ensures e.micros-4.ensures s.plus-start.ensures e.plus-end.ensures c.plus.ensures
+returns c = trap-is _ _ _ _ _ _ _ _ _ c.micros.ensures c.micros-2.ensures c.micros-3.ensures c.micros-4.ensures c.plus-start.ensures c.plus-end.ensures c.plus.ensures

@@ -7,4 +7,4 @@ use Rattle.reader.proofs.Judging.{RulesLeft}
 use Rattle.reader.proofs.ask_rules.Given as goal
 
 abbrev pub invariant-loop-i : goal.invariant-loop-i
-invariant-loop-i l = RulesLeft (λ rule. first_broken rule l.edition l.rasters l.rows l.n l.samples) l.n (rows_of l.file) (Accepted l.n l.count) l.i
+invariant-loop-i l = let n = l.rows.n in RulesLeft (λ rule. first_broken rule l.edition l.rasters l.rows.numbers.now n l.samples) n (rows_of l.file) (Accepted n l.count) l.i

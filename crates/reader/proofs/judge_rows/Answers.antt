@@ -22,8 +22,8 @@ returns-else-is_accepted c = rows-refused _ _ _ _ _ _ _ _ c.expand_shapes-failin
 pub slice_bounds-note_rows-end : goal.slice_bounds-note_rows-end
 slice_bounds-note_rows-end c = full 524288
 
-pub slice_bounds-ask_rules-end : goal.slice_bounds-ask_rules-end
-slice_bounds-ask_rules-end c = full 524288 ∙ sym c.note_rows.auto.hints
+pub slice_bounds-table-end : goal.slice_bounds-table-end
+slice_bounds-table-end c = full 524288 ∙ sym c.note_rows.auto.hints
 
 pub slice_bounds-fill_lengths-end : goal.slice_bounds-fill_lengths-end
 slice_bounds-fill_lengths-end c = full 524288 ∙ sym c.note_rows.auto.hints

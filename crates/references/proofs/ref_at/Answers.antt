@@ -1,41 +1,26 @@
--- `references::ref_at` meets its contract: each kind of row by its own case. Assumes nothing.
-use mathlib.Core.Path.{refl, ◌∙◌}
-use Rattle.signed.proofs.Machine.{rd-at}
-use Rattle.tables.proofs.Numbers.{compared}
-use Rattle.references.proofs.Classes.{ref-block, ref-rf, ref-gradient, ref-entry, ref-none}
+-- `references::ref_at` meets its contract: each kind of row by its own arm. Assumes nothing.
+use Rattle.std.proofs.Common.{arith}
+use Rattle.std.proofs.lemmas.Int.{to_z-of_z}
+use Rattle.signed.specs.Signed.{same_z}
+use Rattle.references.specs.References.{ref_of, ref_at}
 use Rattle.references.proofs.ref_at.Goals as goal
 
-pub returns-then-same : goal.returns-then-same
-returns-then-same c = let s = c.before.before in
-    let m = s.before in
-    rd-at _ c.block_ref.type_inv ∙ c.block_ref.ensures ∙ ref-block _ _ _ _ _ _ m.number-kind.ensures (compared _ _ _ _ s.same.ensures (rd-at _ m.number-kind.type_inv) refl ∙ c.if-same.true)
+pub returns-in-1 : goal.returns-in-1
+unfolding ref_of ref_at same_z
+returns-in-1 c = grind (arith, to_z-of_z)
 
-pub returns-then-same-2 : goal.returns-then-same-2
-returns-then-same-2 c = let t = c.before.before in
-    let s = t.before.before in
-    let m = s.before in
-    rd-at _ c.rf_ref.type_inv ∙ c.rf_ref.ensures ∙ ref-rf _ _ _ _ _ _ m.number-kind.ensures (compared _ _ _ _ s.same.ensures (rd-at _ m.number-kind.type_inv) refl ∙ t.if-same.false) (compared _ _ _ _ t.same-2.ensures (rd-at _ m.number-kind.type_inv) refl ∙ c.if-same-2.true)
+pub returns-in-2 : goal.returns-in-2
+unfolding ref_of ref_at same_z
+returns-in-2 c = grind (arith, to_z-of_z)
 
-pub returns-then-same-3 : goal.returns-then-same-3
-returns-then-same-3 c = let u = c.before.before in
-    let t = u.before.before in
-    let s = t.before.before in
-    let m = s.before in
-    rd-at _ c.gradient_ref.type_inv ∙ c.gradient_ref.ensures ∙ ref-gradient _ _ _ _ _ _ m.number-kind.ensures (compared _ _ _ _ s.same.ensures (rd-at _ m.number-kind.type_inv) refl ∙ t.if-same.false) (compared _ _ _ _ t.same-2.ensures (rd-at _ m.number-kind.type_inv) refl ∙ u.if-same-2.false) (compared _ _ _ _ u.same-3.ensures (rd-at _ m.number-kind.type_inv) refl ∙ c.if-same-3.true)
+pub returns-in-3 : goal.returns-in-3
+unfolding ref_of ref_at same_z
+returns-in-3 c = grind (arith, to_z-of_z)
 
-pub returns-then-same-4 : goal.returns-then-same-4
-returns-then-same-4 c = let o = c.before in
-    let v = o.before.before in
-    let u = v.before.before in
-    let t = u.before.before in
-    let s = t.before.before in
-    let m = s.before in
-    rd-at _ c.entry_ref.type_inv ∙ c.entry_ref.ensures ∙ ref-entry _ _ _ _ _ _ m.number-kind.ensures (compared _ _ _ _ s.same.ensures (rd-at _ m.number-kind.type_inv) refl ∙ t.if-same.false) (compared _ _ _ _ t.same-2.ensures (rd-at _ m.number-kind.type_inv) refl ∙ u.if-same-2.false) (compared _ _ _ _ u.same-3.ensures (rd-at _ m.number-kind.type_inv) refl ∙ v.if-same-3.false) (compared _ _ _ _ v.same-4.ensures (rd-at _ m.number-kind.type_inv) refl ∙ o.if-same-4.true) _ (rd-at _ o.number.type_inv ∙ o.number.ensures)
+pub returns-in-7 : goal.returns-in-7
+unfolding ref_of ref_at same_z
+returns-in-7 c = grind (arith, to_z-of_z)
 
-pub returns : goal.returns
-returns c = let v = c.before in
-    let u = v.before.before in
-    let t = u.before.before in
-    let s = t.before.before in
-    let m = s.before in
-    ref-none _ _ _ _ _ _ m.number-kind.ensures (compared _ _ _ _ s.same.ensures (rd-at _ m.number-kind.type_inv) refl ∙ t.if-same.false) (compared _ _ _ _ t.same-2.ensures (rd-at _ m.number-kind.type_inv) refl ∙ u.if-same-2.false) (compared _ _ _ _ u.same-3.ensures (rd-at _ m.number-kind.type_inv) refl ∙ v.if-same-3.false) (compared _ _ _ _ v.same-4.ensures (rd-at _ m.number-kind.type_inv) refl ∙ c.if-same-4.false)
+pub returns-in_default : goal.returns-in_default
+unfolding ref_of ref_at same_z
+returns-in_default c = grind (arith, to_z-of_z)

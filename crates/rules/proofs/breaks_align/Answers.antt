@@ -9,4 +9,4 @@ returns-in-V13 c = rw c.in-V13.is
 
 pub returns-in-V14 : goal.returns-in-V14
 unfolding align_broken
-returns-in-V14 c = c.misaligned.ensures ∙ rw c.before.in-V14.is
+returns-in-V14 c = c.misaligned.ensures ∙ rw c.in-V14.is

@@ -1,20 +1,22 @@
 -- `rules::fill_row` meets its contract. Assumes nothing.
-use mathlib.Core.Path.{refl, ◌∙◌}
+use Rattle.std.proofs.Common.{◌≡◌, pos, true, false, arith, ◌∙◌}
 use Rattle.signed.proofs.Machine.{rd-at}
-use Rattle.tables.proofs.Numbers.{compared}
+use Rattle.signed.specs.Signed.{same_z}
 use Rattle.rules.proofs.Filling.{row-past, row_block, row_other}
+use Rattle.rules.proofs.fill_row.Goals.{else-k-rows-via-then-k-rows+else-number-eq-BLOCK, else-k-rows-via-else-k-rows}
 use Rattle.rules.proofs.fill_row.Goals as goal
 
-pub returns-then-same : goal.returns-then-same
-returns-then-same c = let t = c.before.before in
-    let s = t.before in
-    let m = s.number in
-    row_block _ _ _ _ _ _ _ _ m.ensures s.if-k-rows.true (compared _ _ _ _ s.same.ensures (rd-at _ m.type_inv) refl ∙ t.if-same.true) _ (rd-at _ c.length_number-ns.type_inv ∙ c.length_number-ns.ensures)
-
-pub returns-else-same : goal.returns-else-same
-returns-else-same c = let s = c.before in
-    let m = s.number in
-    row_other _ _ _ _ _ _ _ _ m.ensures (compared _ _ _ _ s.same.ensures (rd-at _ m.type_inv) refl ∙ c.if-same.false)
+pub returns-then-number-eq-BLOCK : goal.returns-then-number-eq-BLOCK
+unfolding same_z
+returns-then-number-eq-BLOCK c =
+    let block : same_z c.number.result (pos 1) ≡ true = grind arith in
+    row_block _ _ _ _ _ _ _ _ c.number.ensures c.if-k-rows.true block _ (rd-at _ c.length_number-ns.type_inv ∙ c.length_number-ns.ensures)
 
 pub returns-else-k-rows : goal.returns-else-k-rows
-returns-else-k-rows c = row-past _ _ _ _ _ _ _ c.if-k-rows.false
+unfolding same_z
+returns-else-k-rows c =
+    elim c.else-k-rows.branch [
+      | else-k-rows-via-then-k-rows+else-number-eq-BLOCK w ↦
+          let other : same_z w.number.result (pos 1) ≡ false = grind arith in row_other _ _ _ _ _ _ _ _ w.number.ensures other
+      | else-k-rows-via-else-k-rows w ↦ row-past _ _ _ _ _ _ _ w.if-k-rows.false
+    ]

@@ -1,12 +1,11 @@
 -- `rules::first_other` meets its contract. The loop's invariant: the first such row is the first of those that are left. Assumes nothing.
-use Prim.Native.Nat.{◌-◌, ◌≤◌}
-use mathlib.Core.Path.{◌≡◌}
+use Rattle.std.proofs.Common.{◌-◌, ◌≡◌}
 use Rattle.tables.specs.Tables.{first_such}
 use Rattle.rules.specs.Inside.{breaks_other}
 use Rattle.rules.proofs.first_other.Given as goal
 
 abbrev pub invariant-loop-k : goal.invariant-loop-k
-invariant-loop-k l = (l.k ≤ l.n) × (first_such (breaks_other l.edition l.rasters l.rows l.n l.samples) l.k (l.n - l.k) ≡ first_such (breaks_other l.edition l.rasters l.rows l.n l.samples) 0 l.n)
-
-abbrev pub decreases-loop-k : goal.decreases-loop-k
-decreases-loop-k l = l.n - l.k
+invariant-loop-k l =
+    let n = l.timing.rows.n in
+    let breaks = breaks_other l.edition l.rasters l.timing.rows.numbers.now n l.samples in
+    first_such breaks l.k (n - l.k) ≡ first_such breaks 0 n

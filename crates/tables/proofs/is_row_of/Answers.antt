@@ -1,16 +1,16 @@
 -- `tables::is_row_of` meets its contract. Assumes nothing.
-use mathlib.Core.Path.{◌∙◌}
-use Rattle.signed.proofs.Machine.{rd-at, rd-is}
-use Rattle.tables.proofs.Numbers.{row_other, row_same, compared}
+use Rattle.std.proofs.Common.{◌≡◌, true, false, sym, ◌∙◌}
+use borrow.Author.Tests.{eq-eqb, ne_eqb}
+use Rattle.signed.specs.Signed.{same_z}
+use Rattle.tables.proofs.Numbers.{row_other, row_same, same-bits}
 use Rattle.tables.proofs.is_row_of.Goals as goal
 
-pub returns-then-same : goal.returns-then-same
-returns-then-same c = let r = c.before in
-    let s = r.before.before in
-    let k = s.before in
-    c.same-then-same.ensures ∙ rw (rd-at _ r.row_class.type_inv, rd-is k.ranges.class) (row_same _ _ _ _ _ k.number.ensures (compared _ _ _ _ s.same.ensures (rd-at _ k.number.type_inv) (rd-is k.ranges.id) ∙ r.if-same.true) _ r.row_class.ensures)
+pub returns-then-number-id : goal.returns-then-number-id
+returns-then-number-id c =
+    let own : same_z c.number.result c.args.id ≡ true = sym (same-bits c.number.result c.args.id (record { sfits = c.number.type_inv }) c.ranges.id) ∙ eq-eqb _ _ c.if-number-id.true in
+    same-bits c.row_class.result c.args.class (record { sfits = c.row_class.type_inv }) c.ranges.class ∙ row_same _ _ _ _ _ c.number.ensures own _ c.row_class.ensures
 
-pub returns : goal.returns
-returns c = let s = c.before in
-    let k = s.before in
-    row_other _ _ _ _ _ k.number.ensures (compared _ _ _ _ s.same.ensures (rd-at _ k.number.type_inv) (rd-is k.ranges.id) ∙ c.if-same.false)
+pub returns-else-number-id : goal.returns-else-number-id
+returns-else-number-id c =
+    let own : same_z c.number.result c.args.id ≡ false = sym (same-bits c.number.result c.args.id (record { sfits = c.number.type_inv }) c.ranges.id) ∙ ne_eqb _ _ c.if-number-id.false in
+    ne_eqb _ _ c.if-number-id.false ∙ row_other _ _ _ _ _ c.number.ensures own
