@@ -9,6 +9,12 @@ const STDIN_FILENO: i32 = 0;
 
 const STDOUT_FILENO: i32 = 1;
 
+// The largest ID, type and counter.
+const LARGEST_ID: u64 = 2147483647;
+
+// The most samples of a shape.
+const MOST_SAMPLES: u64 = 1_000_000;
+
 // Writes how an answer begins: what the line was read as.
 fn put_name(out: &mut [u8], name: &[u8]) -> usize {
     let next = output::put_bytes(out, 0, b"  ");
@@ -17,18 +23,16 @@ fn put_name(out: &mut [u8], name: &[u8]) -> usize {
 
 // Ends an answer and hands it to standard output.
 fn finish(out: &mut [u8], at: usize) {
-    let next = output::put_byte(out, at, 10);
+    let next = output::put_byte(out, at, b'\n');
     io::write_all(STDOUT_FILENO, output::front(out, next));
 }
 
 // Writes numbers, each behind a space.
 fn put_numbers(out: &mut [u8], at: usize, numbers: &[i64]) -> usize {
     let mut place = at;
-    let mut i = 0;
-    while i < numbers.len() {
-        let next = output::put_byte(out, place, 32);
-        place = print::put_signed(out, next, numbers[i]);
-        i += 1;
+    for z in numbers {
+        let next = output::put_byte(out, place, b' ');
+        place = print::put_signed(out, next, *z);
     }
     place
 }
@@ -76,15 +80,12 @@ fn show_extension(line: &[u8]) {
 
 // Writes the number of a shape's head, if the line is one.
 fn show_head(word: &[u8], most: u64, line: &[u8]) {
-    match heads::read_word_number(line, word, 1, most) {
-        Some(n) => {
-            let mut out = [0u8; 1024];
-            let a = put_name(&mut out, word);
-            let b = output::put_byte(&mut out, a, 32);
-            let c = print::put_integer(&mut out, b, n);
-            finish(&mut out, c);
-        }
-        None => {}
+    if let Some(n) = heads::read_word_number(line, word, 1, most) {
+        let mut out = [0u8; 1024];
+        let a = put_name(&mut out, word);
+        let b = output::put_byte(&mut out, a, b' ');
+        let c = print::put_integer(&mut out, b, n);
+        finish(&mut out, c);
     }
 }
 
@@ -109,17 +110,17 @@ fn show(line: &[u8]) {
     show_edition(Edition::V13, b"13", line);
     show_edition(Edition::V14, b"14", line);
     show_extension(line);
-    show_head(b"shape_id", 2147483647, line);
-    show_head(b"num_samples", 1000000, line);
+    show_head(b"shape_id", LARGEST_ID, line);
+    show_head(b"num_samples", MOST_SAMPLES, line);
 }
 
 // Writes the answers for each line of the input.
 fn show_all(input: &[u8]) {
     let mut at = 0;
+    // Each line says itself where the next one starts.
     while at < input.len() {
         let line = text::next_line(input, at);
-        let stop = line.stop;
-        show(&input[at..stop]);
+        show(&input[at..line.stop]);
         at = line.next;
     }
 }

@@ -8,28 +8,18 @@ use shape::{Edition, Expanded};
 const STDOUT_FILENO: i32 = 1;
 
 // Four values whose sum is zero. No two neighbours are equal, also where they are repeated.
-const VALUES: [u8; 9] = [49, 10, 48, 10, 45, 49, 10, 48, 10];
+const VALUES: [u8; 9] = *b"1\n0\n-1\n0\n";
 
 // Fills a text with the four values, over and over.
 fn fill(text: &mut [u8]) {
-    let mut i = 0;
-    while i < text.len() {
-        text[i] = VALUES[i % 9];
-        i += 1;
+    for (i, b) in text.iter_mut().enumerate() {
+        *b = VALUES[i % VALUES.len()];
     }
 }
 
 // How many samples are not zero.
 fn count_nonzero(samples: &[i64]) -> usize {
-    let mut n = 0;
-    let mut i = 0;
-    while i < samples.len() {
-        if samples[i] != 0 {
-            n += 1;
-        }
-        i += 1;
-    }
-    n
+    samples.iter().filter(|z| **z != 0).count()
 }
 
 // Writes a number under its name.
@@ -43,16 +33,13 @@ fn show(e: Expanded) {
     let mut out = [0u8; 64];
     let a = put_count(&mut out, 0, b"answer ", shape::number_of(e));
     let b = put_count(&mut out, a, b" used ", shape::used_of(e) as u64);
-    let c = output::put_byte(&mut out, b, 10);
+    let c = output::put_byte(&mut out, b, b'\n');
     io::write_all(STDOUT_FILENO, output::front(&out, c));
 }
 
 // The sample at a place; 0 if there is none.
 fn sample_at(samples: &[i64], i: usize) -> i64 {
-    if i < samples.len() {
-        return samples[i];
-    }
-    0
+    samples.get(i).copied().unwrap_or(0)
 }
 
 // Writes a sample under its name.
@@ -67,7 +54,7 @@ fn show_samples(samples: &[i64]) {
     let a = put_sample(&mut out, 0, b"first ", sample_at(samples, 0));
     let b = put_sample(&mut out, a, b" last ", sample_at(samples, 399999));
     let c = put_count(&mut out, b, b" nonzero ", count_nonzero(samples) as u64);
-    let d = output::put_byte(&mut out, c, 10);
+    let d = output::put_byte(&mut out, c, b'\n');
     io::write_all(STDOUT_FILENO, output::front(&out, d));
 }
 

@@ -8,16 +8,19 @@ const STDIN_FILENO: i32 = 0;
 
 const STDOUT_FILENO: i32 = 1;
 
+// The largest ID, type and counter.
+const LARGEST_ID: u64 = 2147483647;
+
 // Writes what parts two worths, and the name of the next one.
 fn put_name(out: &mut [u8], at: usize, name: &[u8]) -> usize {
     let behind = output::put_bytes(out, at, b" | ");
     let next = output::put_bytes(out, behind, name);
-    output::put_byte(out, next, 32)
+    output::put_byte(out, next, b' ')
 }
 
 // Writes a minus alone: there is no such worth.
 fn put_refused(out: &mut [u8], at: usize) -> usize {
-    output::put_byte(out, at, 45)
+    output::put_byte(out, at, b'-')
 }
 
 // Writes a natural number under its name.
@@ -53,24 +56,22 @@ fn put_integers(out: &mut [u8], at: usize, field: &[u8]) -> usize {
         out,
         at,
         b"integer",
-        numeral::read_integer(field, 0, 2147483647),
+        numeral::read_integer(field, 0, LARGEST_ID),
     );
     put_signed(
         out,
         behind,
         b"counter",
-        numeral::read_counter(field, 2147483647),
+        numeral::read_counter(field, LARGEST_ID),
     )
 }
 
 // Writes the pair that a decimal is kept as.
 fn put_pair(out: &mut [u8], at: usize, d: Decimal) -> usize {
-    let m = d.mantissa;
-    let e = d.exponent;
     let next = put_name(out, at, b"decimal");
-    let behind = print::put_signed(out, next, m);
-    let last = output::put_byte(out, behind, 32);
-    print::put_signed(out, last, e)
+    let behind = print::put_signed(out, next, d.mantissa);
+    let last = output::put_byte(out, behind, b' ');
+    print::put_signed(out, last, d.exponent)
 }
 
 // Writes what a decimal is worth as a dwell in ns, as a raster in seconds, and as a count.
@@ -116,17 +117,17 @@ fn show(field: &[u8]) {
     let a = output::put_bytes(&mut out, 0, field);
     let b = put_integers(&mut out, a, field);
     let c = put_decimal(&mut out, b, field);
-    let d = output::put_byte(&mut out, c, 10);
+    let d = output::put_byte(&mut out, c, b'\n');
     io::write_all(STDOUT_FILENO, output::front(&out, d));
 }
 
 // Writes a line for each line of the input.
 fn show_all(input: &[u8]) {
     let mut at = 0;
+    // Each line says itself where the next one starts.
     while at < input.len() {
         let line = text::next_line(input, at);
-        let stop = line.stop;
-        show(&input[at..stop]);
+        show(&input[at..line.stop]);
         at = line.next;
     }
 }

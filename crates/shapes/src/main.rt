@@ -11,43 +11,18 @@ const STDIN_FILENO: i32 = 0;
 
 const STDOUT_FILENO: i32 = 1;
 
-// What a field is worth as a number; 0 if it is none.
-fn number_of(field: &[u8]) -> u64 {
-    match numeral::read_integer(field, 0, 9999999999) {
-        Some(v) => v,
-        None => 0,
-    }
-}
-
-// The number in the first field from a place on; 0 if there is none.
-fn number_at(line: &[u8], at: usize) -> u64 {
-    let field = fields::next_field(line, at);
-    let start = field.start;
-    let stop = field.stop;
-    if line.len() <= start {
-        return 0;
-    }
-    number_of(&line[start..stop])
-}
-
-// The number in the field of a line that has so many fields before it.
-fn number_in(line: &[u8], before: usize) -> usize {
-    let mut at = 0;
-    let mut i = 0;
-    while i < before {
-        let field = fields::next_field(line, at);
-        at = field.stop;
-        i += 1;
-    }
-    number_at(line, at) as usize
+// What a field of a line is worth as a number; 0 if it is none.
+fn number_in(line: &[u8], k: usize) -> usize {
+    numeral::read_integer(fields::field(line, k), 0, 9999999999).unwrap_or(0) as usize
 }
 
 // The edition that a head line names: 1.3 by 13, and 1.4 by anything else.
 fn edition_of(head: &[u8]) -> Edition {
     if number_in(head, 0) == 13 {
-        return Edition::V13;
+        Edition::V13
+    } else {
+        Edition::V14
     }
-    Edition::V14
 }
 
 // Writes the line of an answer.
@@ -56,7 +31,7 @@ fn put_answer(out: &mut [u8], at: usize, e: Expanded) -> usize {
     let b = print::put_integer(out, a, shape::number_of(e));
     let c = output::put_bytes(out, b, b" used ");
     let d = print::put_integer(out, c, shape::used_of(e) as u64);
-    output::put_byte(out, d, 10)
+    output::put_byte(out, d, b'\n')
 }
 
 // Writes a sample, behind a space if it is not the first.
@@ -64,19 +39,17 @@ fn put_sample(out: &mut [u8], at: usize, first: bool, z: i64) -> usize {
     if first {
         return print::put_signed(out, at, z);
     }
-    let next = output::put_byte(out, at, 32);
+    let next = output::put_byte(out, at, b' ');
     print::put_signed(out, next, z)
 }
 
 // Writes samples on one line.
 fn put_samples(out: &mut [u8], at: usize, samples: &[i64]) -> usize {
     let mut place = at;
-    let mut i = 0;
-    while i < samples.len() {
-        place = put_sample(out, place, i == 0, samples[i]);
-        i += 1;
+    for (i, z) in samples.iter().enumerate() {
+        place = put_sample(out, place, i == 0, *z);
     }
-    output::put_byte(out, place, 10)
+    output::put_byte(out, place, b'\n')
 }
 
 // Expands one case into what is lent, and writes its two lines.
@@ -90,12 +63,8 @@ fn expand(head: &[u8], stored: &[u8], samples: &mut [i64]) {
 
 // Expands one case into the front of a table, as far as its head line lends it.
 fn lend(head: &[u8], stored: &[u8], table: &mut [i64]) {
-    let room = number_in(head, 2);
-    if room < table.len() {
-        expand(head, stored, &mut table[..room]);
-        return;
-    }
-    expand(head, stored, table);
+    let room = number_in(head, 2).min(table.len());
+    expand(head, stored, &mut table[..room]);
 }
 
 // Shows one case. No sample of its table is zero before.
@@ -110,10 +79,10 @@ fn stored_end(input: &[u8], from: usize) -> usize
     ensures { (from ≤ result) × (result ≤ length input.now) }
 {
     let mut at = from;
+    // Each line says itself where the next one starts.
     while at < input.len() {
         let line = text::next_line(input, at);
-        let stop = line.stop;
-        if text::same(&input[at..stop], b"=") {
+        if text::same(&input[at..line.stop], b"=") {
             return at;
         }
         at = line.next;
@@ -124,14 +93,12 @@ fn stored_end(input: &[u8], from: usize) -> usize
 // Shows each case of the input.
 fn show_all(input: &[u8]) {
     let mut at = 0;
+    // Each case says itself where the next one starts.
     while at < input.len() {
         let head = text::next_line(input, at);
-        let stop = head.stop;
-        let from = head.next;
-        let end = stored_end(input, from);
-        show(&input[at..stop], &input[from..end]);
-        let last = text::next_line(input, end);
-        at = last.next;
+        let end = stored_end(input, head.next);
+        show(&input[at..head.stop], &input[head.next..end]);
+        at = text::next_line(input, end).next;
     }
 }
 

@@ -33,7 +33,7 @@ slice_bounds-show-count-in-loop-at c = c.stored_end-end.ensures.0
 
 pub loop-at-smaller : goal.loop-at-smaller
 loop-at-smaller c = let l = (line-at _ _ _ c.next_line-head.ensures c.loop-at-test.true) in
-    omega (arith, c.stored_end-end.ensures.0, not_back _ _ _ c.next_line-last.ensures)
+    omega (arith, c.stored_end-end.ensures.0, not_back _ _ _ c.next_line-at.ensures)
 
 pub loop-at-preserved : goal.loop-at-preserved
 loop-at-preserved c = tt
