@@ -1,10 +1,10 @@
 -- Numbers and classes of rows, by the answers of the code's tests. Assumes nothing.
-use Prim.Native.Nat.{ℕ, ◌+◌, ◌*◌, ◌/◌, ◌<◌}
-use mathlib.Core.Bool.{Bool, true, false, and-true, and-false}
+use Prim.Native.Nat.{ℕ, ◌+◌, ◌*◌, ◌/◌, ◌≤◌, ◌<◌}
+use mathlib.Core.Bool.{Bool, true, false, cond, ◌&&◌, and-true, and-false}
 use mathlib.Core.List.{List}
 use mathlib.Core.Path.{◌≡◌, refl, sym, ap, ◌∙◌}
-use borrow.Author.Tests.{lt-ltb, eq-eqb, ne_eqb}
-use lib.Dec.{eqb}
+use borrow.Author.Tests.{lt-ltb, le-ltb, eq-eqb, ne_eqb}
+use lib.Dec.{eqb, ltb}
 use lib.IntN.{ℤ, pos}
 use lib.ListN.{length, get_or}
 use mir.Syntax.{w64}
@@ -16,6 +16,14 @@ use Rattle.tables.specs.Tables.{number_at, class_at, is_row_of}
 
 -- ---- numbers
 module _ (rows : List ℤ) (k c : ℕ) where
+  no_row : (a : Bool) → pos 0 ≡ cond (a && false) (get_or rows (k * 12 + c) (pos 0)) (pos 0)
+  no_row true = refl
+  no_row false = refl
+
+  pub number-beyond : 12 ≤ c → pos 0 ≡ number_at rows k c
+  unfolding number_at
+  number-beyond h = rw (le-ltb c 12 h) (no_row (ltb k (length rows / 12)))
+
   pub number-there : k < length rows / 12 → c < 12 → get_or rows (k * 12 + c) (pos 0) ≡ number_at rows k c
   unfolding number_at
   number-there h l = rw (lt-ltb k (length rows / 12) h, lt-ltb c 12 l)
