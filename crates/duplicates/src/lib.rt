@@ -309,10 +309,8 @@ fn name_count(rows: &[i64], k: usize) -> usize
 // How many of n rows name an extension, for the choice of parts.
 fn count_names(rows: &[i64], n: usize) -> usize {
     let mut count: usize = 0;
-    let mut k: usize = 0;
-    while k < n {
+    for k in 0..n {
         count += name_count(rows, k);
-        k += 1;
     }
     count
 }

@@ -22,7 +22,7 @@ fn write(text: &[u8]) {
 
 // Ends a line and hands it to standard output.
 fn finish(out: &mut [u8], at: usize) {
-    let next = output::put_byte(out, at, 10);
+    let next = output::put_byte(out, at, b'\n');
     write(output::front(out, next));
 }
 
@@ -35,21 +35,19 @@ fn put_named(out: &mut [u8], at: usize, name: &[u8], n: u64) -> usize {
 // Writes numbers, each behind a space.
 fn put_numbers(out: &mut [u8], at: usize, numbers: &[i64]) -> usize {
     let mut place = at;
-    let mut i = 0;
-    while i < numbers.len() {
-        let next = output::put_byte(out, place, 32);
-        place = print::put_signed(out, next, numbers[i]);
-        i += 1;
+    for z in numbers {
+        let next = output::put_byte(out, place, b' ');
+        place = print::put_signed(out, next, *z);
     }
     place
 }
 
 // Writes a value behind a space, if it is not empty.
 fn put_value(out: &mut [u8], at: usize, value: &[u8]) -> usize {
-    if value.len() == 0 {
+    if value.is_empty() {
         return at;
     }
-    let next = output::put_byte(out, at, 32);
+    let next = output::put_byte(out, at, b' ');
     output::put_bytes(out, next, value)
 }
 
@@ -76,21 +74,13 @@ fn edition_number(edition: Edition) -> u64 {
     }
 }
 
-// 1 for what is so, and 0 for what is not.
-fn one_if(so: bool) -> u64 {
-    if so {
-        return 1;
-    }
-    0
-}
-
 // Writes what a whole file has: its edition, how many rows and samples, and whether definitions.
 fn show_whole(edition: Edition, rows: usize, samples: u64, defined: bool) {
     let mut out = [0u8; 128];
     let a = put_named(&mut out, 0, b"edition ", edition_number(edition));
     let b = put_named(&mut out, a, b" rows ", rows as u64);
     let c = put_named(&mut out, b, b" samples ", samples);
-    let d = put_named(&mut out, c, b" definitions ", one_if(defined));
+    let d = put_named(&mut out, c, b" definitions ", u64::from(defined));
     finish(&mut out, d);
 }
 
@@ -106,10 +96,7 @@ fn show_stored(file: &[u8], id: i64)
 
 // The number at a place of a row; 0 if there is none.
 fn number_at(numbers: &[i64], i: usize) -> i64 {
-    if i < numbers.len() {
-        return numbers[i];
-    }
-    0
+    numbers.get(i).copied().unwrap_or(0)
 }
 
 // Writes a row's line and numbers, and the stored lines of a shape.
@@ -118,10 +105,10 @@ fn show_row(file: &[u8], k: usize, numbers: &[i64])
 {
     let mut out = [0u8; 512];
     let a = print::put_integer(&mut out, 0, file::row_line(file, k) as u64);
-    let b = output::put_byte(&mut out, a, 58);
+    let b = output::put_byte(&mut out, a, b':');
     let c = put_numbers(&mut out, b, numbers);
     finish(&mut out, c);
-    if signed::same(number_at(numbers, 0), 11) {
+    if number_at(numbers, 0) == 11 {
         show_stored(file, number_at(numbers, 1));
     }
 }
@@ -130,22 +117,16 @@ fn show_row(file: &[u8], k: usize, numbers: &[i64])
 fn show_rows(file: &[u8], table: &[i64], rows: usize)
     requires { sound_of file.now ≡ true }
 {
-    let mut k = 0;
-    while k < rows {
-        if table.len() / 12 <= k {
-            return;
-        }
+    for k in 0..rows.min(table.len() / 12) {
         let base = k * 12;
         show_row(file, k, &table[base..base + 12]);
-        k += 1;
     }
 }
 
 // Writes what scanning a file gives.
 fn show_file(file: &[u8]) {
     let mut table = [0i64; 720];
-    let scanned = file::scan(file, &mut table);
-    match scanned {
+    match file::scan(file, &mut table) {
         Ok(
             Summary {
                 edition,
@@ -192,35 +173,17 @@ fn show<'a>(number: u64, file: &'a [u8], site: &'a [u8]) {
 }
 
 // What the k-th field of a line is worth as a count of bytes.
-fn read_count(line: &[u8], k: usize) -> Option<u64> {
-    numeral::read_integer(fields::field(line, k), 0, 9999999999)
+fn read_count(line: &[u8], k: usize) -> Option<usize> {
+    let n = numeral::read_integer(fields::field(line, k), 0, 9999999999)?;
+    Some(n as usize)
 }
 
-// Is there a count?
-fn is_count(count: Option<u64>) -> bool {
-    match count {
-        Some(_) => true,
-        None => false,
-    }
-}
-
-// Is this the head line of a record: two counts?
-fn is_head(line: &[u8]) -> bool {
+// The two counts of the head line of a record, if it is one.
+fn counts_of(line: &[u8]) -> Option<(usize, usize)> {
     if fields::field_count(line) != 2 {
-        return false;
+        return None;
     }
-    if is_count(read_count(line, 0)) {
-        return is_count(read_count(line, 1));
-    }
-    false
-}
-
-// How many bytes the k-th field of a head line says; 0 if it is no count.
-fn bytes_of(line: &[u8], k: usize) -> usize {
-    match read_count(line, k) {
-        Some(n) => n as usize,
-        None => 0,
-    }
+    Some((read_count(line, 0)?, read_count(line, 1)?))
 }
 
 // Where so many bytes stop that start at a place, or the end where there are fewer.
@@ -228,26 +191,22 @@ fn stop_of(input: &[u8], from: usize, bytes: usize) -> usize
     requires { from ≤ length input.now }
     ensures { (from ≤ result) × (result ≤ length input.now) }
 {
-    if bytes < input.len() - from {
-        return from + bytes;
-    }
-    input.len()
+    from + bytes.min(input.len() - from)
 }
 
 // Shows each record of the input, up to a line that is no head line.
 fn show_all(input: &[u8]) {
     let mut at = 0;
     let mut number: u64 = 0;
+    // Each record says itself where the next one starts.
     while at < input.len() {
         let line = text::next_line(input, at);
-        let stop = line.stop;
         let from = line.next;
-        let head = &input[at..stop];
-        if !is_head(head) {
+        let Some((bytes, more)) = counts_of(&input[at..line.stop]) else {
             return;
-        }
-        let middle = stop_of(input, from, bytes_of(head, 0));
-        let end = stop_of(input, middle, bytes_of(head, 1));
+        };
+        let middle = stop_of(input, from, bytes);
+        let end = stop_of(input, middle, more);
         number += 1;
         show(number, &input[from..middle], &input[middle..end]);
         at = end;

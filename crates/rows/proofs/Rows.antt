@@ -19,7 +19,6 @@ use Rattle.rows.specs.Inside.{CellIs}
 use Rattle.columns.specs.declared.Kind.{Kind}
 use Rattle.columns.specs.declared.Kind.TheVariants.{Absent}
 use Rattle.columns.specs.declared.Form.{Form}
-use Rattle.columns.specs.declared.Form.TheVariants.{Block}
 use Rattle.columns.proofs.Widths.{room-all}
 use Rattle.rows.specs.declared.Cell.{Cell}
 use Rattle.rows.specs.declared.Cell.TheVariants.{One, Two}

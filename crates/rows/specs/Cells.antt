@@ -1,7 +1,7 @@
 -- The fields of a line read by a list of columns into a row's numbers. "A decimal as two numbers, dwell as ns, an absent time
 -- as 0."
 use Rattle.numeral.specs.declared.Decimal.{Decimal}
-use Rattle.std.specs.Prelude.{ℕ, true, false, cond, List, [], ◌∷◌, ℤ, pos, Option, None, Some}
+use Rattle.std.specs.Prelude.{ℕ, cond, List, [], ◌∷◌, ℤ, pos, Option, None, Some}
 use Rattle.numeral.specs.Integer.{integer_of}
 use Rattle.decimals.specs.Decimal.{decimal_of}
 use Rattle.numeral.specs.Worth.{whole_of}

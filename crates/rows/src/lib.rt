@@ -106,6 +106,7 @@ fn gather(line: &[u8], start: usize) -> Option<(u64, usize)>
 {
     let mut v: u64 = 0;
     let mut i = start;
+    // Where the digits stop is told, also where the line ends with them.
     while i < line.len() {
         let b = line[i];
         if b < 48 {
@@ -230,8 +231,7 @@ fn gather_line(text: &[u8], start: usize) -> Option<(u64, usize)>
     ensures { GatheredIs text.now start result }
 {
     let mut v: u64 = 0;
-    let mut i = start;
-    while i < text.len() {
+    for i in start..text.len() {
         let b = text[i];
         if b < 48 {
             if b == 10 {
@@ -249,7 +249,6 @@ fn gather_line(text: &[u8], start: usize) -> Option<(u64, usize)>
             return None;
         }
         v = v * 10 + (b - 48) as u64;
-        i += 1;
     }
     None
 }

@@ -1,7 +1,6 @@
 use Rattle.file.proofs.Walking.{within-turn}
 use Rattle.text.proofs.Cut.{LineAt, line-at}
 use native.Mathlib.Omega.{arith}
-use Prim.Native.Nat.{◌-◌}
 use Rattle.duplicates.proofs.count_words.Goals.{After-next_line-line}
 use Rattle.duplicates.proofs.count_words.Goals as goal
 

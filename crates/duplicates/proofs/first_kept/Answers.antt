@@ -6,7 +6,7 @@ use Rattle.duplicates.specs.Words.{words_of}
 use Rattle.text.proofs.Cut.{LineAt, line-at, WholeAt, whole-at}
 use mathlib.Core.Path.{sym, ◌∙◌}
 use native.Mathlib.Omega.{arith}
-use Prim.Native.Nat.{◌+◌, ◌-◌}
+use Prim.Native.Nat.{◌+◌}
 use Rattle.passing.proofs.Reaching.{toward-start, toward-pass, toward-turn}
 use Rattle.duplicates.proofs.first_kept.Goals.{After-next_line-line, After-struct_known-1}
 use Rattle.duplicates.proofs.first_kept.Goals as goal

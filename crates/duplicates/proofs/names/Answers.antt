@@ -1,5 +1,4 @@
 -- `duplicates::names` meets its contract. Assumes nothing.
-use mathlib.Core.Bool.{false, true}
 use mathlib.Core.Path.{◌≡◌, refl, sym, ◌∙◌}
 use borrow.Author.Tests.{eqb-true, eqb-false}
 use denote.Enum.Bare.{sameb}

@@ -4,7 +4,6 @@ use Rattle.passing.proofs.Reaching.{before-start, before-end}
 use Rattle.text.proofs.Cut.{LineAt, line-at, WholeAt, whole-at}
 use mathlib.Core.Path.{refl, sym, ◌∙◌}
 use native.Mathlib.Omega.{arith}
-use Prim.Native.Nat.{◌-◌}
 use Rattle.duplicates.proofs.seek_names.Goals.{After-next_line-line}
 use Rattle.duplicates.proofs.seek_names.Goals as goal
 

@@ -1,4 +1,3 @@
-use Prim.Native.Nat.{◌-◌}
 use Rattle.file_checks.proofs.check_rules.Goals as goal
 
 pub loop-i-init : goal.loop-i-init

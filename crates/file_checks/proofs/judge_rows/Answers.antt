@@ -3,8 +3,8 @@ use Rattle.tables.proofs.Found.{first-none}
 use borrow.Author.Rules.{rules}
 use Rattle.file_checks.proofs.judge_rows.Goals as goal
 
-pub check_shapes-expanded-requires : goal.check_shapes-expanded-requires
-check_shapes-expanded-requires c = record { file_value = search rules; shapes_value = search rules; none_again = first-none _ _ c.first_again-again.ensures c.if-again-rows.false }
+pub check_shapes-requires : goal.check_shapes-requires
+check_shapes-requires c = record { file_value = search rules; shapes_value = search rules; none_again = first-none _ _ c.first_again-again.ensures c.if-again-rows.false }
 
 pub invariant_of-told : goal.invariant_of-told
 invariant_of-told c = record { once = first-none _ _ c.first_again-again.ensures c.if-again-rows.false }

@@ -1,11 +1,7 @@
--- `file_checks::put_numbers` is safe and ends. The loop's invariant: the output keeps its length. The measure is how many numbers are left. Assumes nothing.
+-- `file_checks::put_numbers` is safe and ends. The loop's invariant: the output keeps its length. Assumes nothing.
 use mathlib.Core.Path.{◌≡◌}
-use Prim.Native.Nat.{◌-◌}
 use lib.ListN.{length}
 use Rattle.file_checks.proofs.put_numbers.Given as goal
 
-abbrev pub invariant-loop-i : goal.invariant-loop-i
-invariant-loop-i l = length l.out ≡ length l.initial.out
-
-abbrev pub decreases-loop-i : goal.decreases-loop-i
-decreases-loop-i l = length l.numbers - l.i
+abbrev pub invariant-loop-z : goal.invariant-loop-z
+invariant-loop-z l = length l.out ≡ length l.initial.out

@@ -7,18 +7,18 @@ use Rattle.file_checks.proofs.show_all.Goals as goal
 less : (n at e : ℕ) → at < n → at < e → n - e < n - at
 less n at e h k = omega arith
 
-pub slice_bounds-head-count : goal.slice_bounds-head-count
-slice_bounds-head-count c =
+pub slice_bounds-counts_of-count : goal.slice_bounds-counts_of-count
+slice_bounds-counts_of-count c =
     let the-line : LineAt c.args.input.now c.loop-at.at c.next_line-line.result = line-at _ _ _ c.next_line-line.ensures c.loop-at-test.true in
     the-line.ordered
 
-pub slice_bounds-head-start : goal.slice_bounds-head-start
-slice_bounds-head-start c =
+pub slice_bounds-counts_of-start : goal.slice_bounds-counts_of-start
+slice_bounds-counts_of-start c =
     let the-line : LineAt c.args.input.now c.loop-at.at c.next_line-line.result = line-at _ _ _ c.next_line-line.ensures c.loop-at-test.true in
     the-line.ordered
 
-pub slice_bounds-head-end : goal.slice_bounds-head-end
-slice_bounds-head-end c =
+pub slice_bounds-counts_of-end : goal.slice_bounds-counts_of-end
+slice_bounds-counts_of-end c =
     let the-line : LineAt c.args.input.now c.loop-at.at c.next_line-line.result = line-at _ _ _ c.next_line-line.ensures c.loop-at-test.true in
     the-line.within
 

@@ -36,12 +36,6 @@ overflow_cast-v c = omega arith
 pub overflow_add-v : goal.overflow_add-v
 overflow_add-v c = omega (arith, walk-small c.loop-i.invariant (omega arith))
 
-pub overflow_add-i : goal.overflow_add-i
-overflow_add-i c = omega arith
-
-pub loop-i-smaller : goal.loop-i-smaller
-loop-i-smaller c = omega arith
-
 pub loop-i-preserved : goal.loop-i-preserved
 loop-i-preserved c = walk_turn c.loop-i.invariant (omega arith) (omega arith) (omega arith) (omega arith)
 

@@ -4,11 +4,9 @@ use lib.ListN.{length, drop, take}
 use mathlib.Core.List.{List, ◌∷◌}
 use mathlib.Core.Path.{◌≡◌, sym, ◌∙◌}
 use mathlib.Core.Bool.{false}
-use native.Mathlib.Omega.{arith}
 use Rattle.fields.specs.Fields.{fields_of, field_at}
 use Rattle.fields.specs.declared.Part.{Part}
 use Rattle.fields.proofs.Cut.{field-at, no_field}
-use Rattle.signed.proofs.Machine.{rd-at}
 use Rattle.std.proofs.Common.{Some}
 use Rattle.rows.specs.declared.Cell.{Cell}
 use Rattle.rows.specs.declared.Cell.TheVariants.{One, Two}
