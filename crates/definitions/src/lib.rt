@@ -96,6 +96,7 @@ pub fn site_place(site: &[u8], key: &[u8]) -> Part
     ensures { result ≡ site_place site.now key.now }
 {
     let mut at: usize = 0;
+    // Each line says itself where the next one starts.
     while at < site.len() {
         let line = text::next_line(site, at);
         let stop = line.stop;
@@ -131,6 +132,7 @@ pub fn site_fault(site: &[u8]) -> bool
     ensures { result ≡ site_fault site.now }
 {
     let mut at: usize = 0;
+    // Each line says itself where the next one starts.
     while at < site.len() {
         let line = text::next_line(site, at);
         let stop = line.stop;

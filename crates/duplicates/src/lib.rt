@@ -211,6 +211,7 @@ fn first_kept(set: &mut [u64], file: &[u8], names: Walk, parts: u64, part: u64) 
     let mut st = places::start();
     let mut at: usize = 0;
     let mut n: usize = 1;
+    // Lines that give no word are passed over unread, which a step of a walk cannot.
     while at < file.len() {
         match words_ahead(st, at, names.at) {
             Ahead::Here => {
@@ -274,6 +275,7 @@ fn count_words(file: &[u8], from: Walk, sort: Sort) -> usize
     let mut at = from.at;
     let mut n = from.lines + 1;
     let mut count: usize = 0;
+    // Lines that give no word are passed over unread, which a step of a walk cannot.
     while at < file.len() {
         if is_left(st, sort) {
             return count;
@@ -368,6 +370,7 @@ fn seek_names(file: &[u8]) -> Walk
     let mut st = places::start();
     let mut at: usize = 0;
     let mut n: usize = 1;
+    // Lines that give no word are passed over unread, which a step of a walk cannot.
     while at < file.len() {
         let line = text::next_line(file, at);
         let stop = line.stop;

@@ -60,6 +60,7 @@ fn lines_hold(stored: &[u8]) -> usize
 {
     let mut at = 0;
     let mut n = 0;
+    // Each line says itself where the next one starts.
     while at < stored.len() {
         let line = text::next_line(stored, at);
         let stop = line.stop;
@@ -84,6 +85,7 @@ fn next_value(stored: &[u8], from: usize) -> Next
     ensures { NextIs stored.now from result }
 {
     let mut at = from;
+    // Each line says itself where the next one starts.
     while at < stored.len() {
         let line = shape::item_at(stored, at);
         let item = line.item;
@@ -276,6 +278,7 @@ fn lay_runs(stored: &[u8], samples: &mut [i64], num: usize) -> bool
     ensures { told result samples.new ≡ soundly (all_sound (lines_of stored.now)) (judged num samples.old 0 (sums_of (pos 0) (fresh_of (values_of stored.now)))) }
 {
     let mut state = next_fresh(stored, 0, 0, 0);
+    // The state says what comes next.
     loop {
         match state {
             State::Fresh {
@@ -310,6 +313,7 @@ fn lay_plain(stored: &[u8], samples: &mut [i64], num: usize) -> bool
 {
     let mut from = 0;
     let mut at = 0;
+    // Each value says itself where the next one starts.
     loop {
         match next_value(stored, from) {
             Next::Value(d, behind) => {

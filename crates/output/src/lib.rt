@@ -36,6 +36,7 @@ pub fn put_bytes(out: &mut [u8], at: usize, bytes: &[u8]) -> usize
 fn fill_from<T: Copy>(table: &mut [T], from: usize, value: T)
     ensures { table.new ≡ cleared_from value from table.old }
 {
+    // Not by `fill`, which asks for a copy of the value that cannot fail.
     for i in from..table.len() {
         table[i] = value;
     }

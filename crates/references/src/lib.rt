@@ -43,6 +43,7 @@ fn rf_ref(c: usize) -> i64
 }
 
 // The class that number c of a gradient refers to: its amplitude and time are shapes.
+// A function of its own: one for both would be told the columns that these arms say.
 fn gradient_ref(c: usize) -> i64
     ensures { result ≡ pos (get_or gradient_refs c 0) }
 {

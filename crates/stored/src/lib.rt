@@ -40,6 +40,7 @@ fn behind_values(file: &[u8], from: Walk) -> Walk
     ensures { result ≡ behind_from from (whole_lines_of (drop from.at file.now)) }
 {
     let mut walk = from;
+    // Lines that leave the state as it is are passed over unread, which a step of a walk cannot.
     while walk.at < file.len() {
         let at = walk.at;
         let line = text::next_line(file, at);
@@ -89,6 +90,7 @@ fn seek(file: &[u8], from: Walk, any: bool, id: i64) -> Sought
     ensures { result ≡ sought_of file.now from any id }
 {
     let mut walk = from;
+    // Lines that leave the state as it is are passed over unread, which a step of a walk cannot.
     while walk.at < file.len() {
         let at = walk.at;
         let state = walk.state;
