@@ -83,12 +83,12 @@ fn is_next(uses: &Uses<'_>, used: usize, k: usize) -> bool
 }
 
 // How many durations are used with row k, where so many are used before it.
-fn used_with(uses: &Uses<'_>, used: usize, k: usize) -> usize
-    requires used_value { used ≡ uses_in uses.now.rows.now uses.now.n 0 k }
-    requires k_lt_n { k < uses.now.n }
-    ensures { result ≡ uses_in uses.now.rows.now uses.now.n 0 (suc k) }
+fn used_with(uses: Uses<'_>, used: usize, k: usize) -> usize
+    requires used_value { used ≡ uses_in uses.rows.now uses.n 0 k }
+    requires k_lt_n { k < uses.n }
+    ensures { result ≡ uses_in uses.entry.rows.now uses.entry.n 0 (suc k) }
 {
-    used + usize::from(is_next(uses, used, k))
+    used + usize::from(is_next(&uses, used, k))
 }
 
 // Writes the delay row of row k, if more durations are used with it than before it: the row's number is how many.
@@ -111,7 +111,7 @@ fn put_delays(out: &mut [u8], at: usize, uses: &Uses<'_>) -> usize
     let mut place = at;
     let mut used = 0;
     for k in 0..uses.n {
-        let next = used_with(uses, used, k);
+        let next = used_with(*uses, used, k);
         place = put_delay(out, place, used, next, uses.rows, k);
         used = next;
     }

@@ -7,8 +7,8 @@ use Rattle.durations.proofs.Listing.{uses-after}
 use Rattle.section_text.proofs.used_with.Goals as goal
 
 pub overflow_add-result : goal.overflow_add-result
-overflow_add-result c = grind (arith, common_steps, uses-few c.args.uses.now.rows.now c.args.uses.now.n 0 c.args.k)
+overflow_add-result c = grind (arith, common_steps, uses-few c.args.uses.rows.now c.args.uses.n 0 c.args.k)
 
 pub returns : goal.returns
 unfolding use_count
-returns c = grind (arith, common_steps, uses-after c.args.uses.now.rows.now c.args.uses.now.n c.args.k)
+returns c = grind (arith, common_steps, uses-after c.args.uses.rows.now c.args.uses.n c.args.k)
