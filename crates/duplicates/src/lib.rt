@@ -33,7 +33,7 @@ enum Ahead {
 fn row_names(kind: i64) -> Option<Sort>
     ensures { result ≡ row_names kind }
 {
-    if signed::same(kind, 8) {
+    if kind == tables::EXTENSION {
         return Some(Sort::Name);
     }
     None

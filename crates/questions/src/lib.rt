@@ -51,8 +51,7 @@ fn gives_block(did: Stepped) -> bool
     if file::row_count(did.found) == 0 {
         return false;
     }
-    let cells = did.cells;
-    signed::same(tables::number(&cells, 0, 0), 1)
+    tables::number(&did.cells, 0, 0) == tables::BLOCK
 }
 
 // Has a file a block row, among those too that a table has no room for?

@@ -25,7 +25,7 @@ use Rattle.columns.specs.Columns.{shape_kind}
 use Rattle.tables.specs.Tables.{first_such, number_at, class_of, class_at, is_row_of, first_row, NoneAgain}
 use Rattle.tables.proofs.Found.{such-start, such-here, such-further, such-none, first-is}
 use Rattle.sampling.specs.Sampling.{is_shape_row, text_at, num_at, place_at, from_at, room_at, failed, fails_at, first_failing, laid_at, laid_from, Sampled}
-use Rattle.sampling.specs.declared.Turned.{Turned}
+use Rattle.std.proofs.Common.{Option, Some, None, is_none}
 use Rattle.sampling.specs.Inside.{ShapeSampled, NewTo, IsNew, RowSampled}
 use Rattle.sampling.proofs.Failing.{table-length}
 
@@ -113,14 +113,18 @@ module _ (file : List ℕ) (rows : List ℤ) (k : ℕ) (walk : Walk) (w : Walked
 
 -- ---- row k, whose kind was read
 module _ (edition : Edition) (file : List ℕ) (rows : List ℤ) (k : ℕ) (l : List ℤ) (kind : ℤ) (p : kind ≡ number_at rows k 0) where
-  pub row-shape : same_z kind (pos 11) ≡ true → (walk : Walk) → Walked file (NewTo rows (k + 1)) walk → (text : List ℕ) → text ≡ text_at file rows k → (failed : Bool) (l' : List ℤ)
-      → ShapeSampled edition text rows k l failed l' → RowSampled edition file rows k l (record { failed = failed; walk = walk }) l'
-  unfolding fails_at laid_at is_shape_row
-  row-shape e walk w text t failed l' s = record { answer = s.answer ∙ rw (← p, e, t); samples = s.samples ∙ rw (← p, e, t); walked = w }
+  module _ (e : same_z kind (pos 11) ≡ true) (text : List ℕ) (t : text ≡ text_at file rows k) (failed : Bool) (l' : List ℤ) (s : ShapeSampled edition text rows k l failed l') where
+    pub row-fails : failed ≡ true → RowSampled edition file rows k l None l'
+    unfolding fails_at laid_at is_shape_row
+    row-fails f = record { answer = sym f ∙ s.answer ∙ rw (← p, e, t); samples = s.samples ∙ rw (← p, e, t); walked = λ w q. absurd (let z : ◌≡◌ {A = ℕ} 0 1 = cc in omega arith) }
 
-  pub row_other : same_z kind (pos 11) ≡ false → (walk : Walk) → Walked file (NewTo rows k) walk → RowSampled edition file rows k l (record { failed = false; walk = walk }) l
+    pub row-shape : failed ≡ false → (walk : Walk) → Walked file (NewTo rows (k + 1)) walk → RowSampled edition file rows k l (Some walk) l'
+    unfolding fails_at laid_at is_shape_row
+    row-shape f walk w = record { answer = sym f ∙ s.answer ∙ rw (← p, e, t); samples = s.samples ∙ rw (← p, e, t); walked = λ w' q. let r : walk ≡ w' = cc in rw (← r) w }
+
+  pub row_other : same_z kind (pos 11) ≡ false → (walk : Walk) → Walked file (NewTo rows k) walk → RowSampled edition file rows k l (Some walk) l
   unfolding fails_at laid_at is_shape_row
-  row_other e walk w = record { answer = rw (← p, e); samples = rw (← p, e); walked = walked-less (new-less rows k) w }
+  row_other e walk w = record { answer = rw (← p, e); samples = rw (← p, e); walked = λ w' q. let r : walk ≡ w' = cc in rw (← r) (walked-less (new-less rows k) w) }
 
 -- ---- the loop: what the rows that are left give
 pub record Expanding (edition : Edition) (file : List ℕ) (rows : List ℤ) (n : ℕ) (l₀ l : List ℤ) (walk : Walk) (k : ℕ) : Type 0 where
@@ -143,32 +147,32 @@ module _ (edition : Edition) (file : List ℕ) (rows : List ℤ) (n : ℕ) (l₀
       let e : n - k ≡ 0 = omega arith in
       record { answer = such-none (fails_at edition file rows (length l₀)) k n x.within h ∙ x.first; samples = rw e at x.rest }
 
-  module _ (h : k < n) (r : Turned) (l' : List ℤ) (s : RowSampled edition file rows k l r l') where
+  module _ (h : k < n) (r : Option Walk) (l' : List ℤ) (s : RowSampled edition file rows k l r l') where
     left : n - k ≡ suc (n - (k + 1))
     left = omega arith
 
-    fails-is : r.failed ≡ fails_at edition file rows (length l₀) k
+    fails-is : is_none r ≡ fails_at edition file rows (length l₀) k
     fails-is = s.answer ∙ rw x.long
 
     laid-is : l' ≡ laid_at edition file rows (length l₀) k l
     laid-is = s.samples ∙ rw x.long
 
-    pub expanding-fails : r.failed ≡ true → Sampled edition file rows n l₀ k l'
+    pub expanding-fails : r ≡ None → Sampled edition file rows n l₀ k l'
     unfolding laid_from
     expanding-fails e =
-        let f : fails_at edition file rows (length l₀) k ≡ true = sym fails-is ∙ e in
+        let f : fails_at edition file rows (length l₀) k ≡ true = sym fails-is ∙ rw e in
         record {
           answer = such-here (fails_at edition file rows (length l₀)) k n h f ∙ x.first;
           samples = laid-is ∙ rw (left, f) at x.rest;
         }
 
-    pub expanding-turn : r.failed ≡ false → length l' ≡ length l → Expanding edition file rows n l₀ l' r.walk (k + 1)
+    pub expanding-turn : (behind : Walk) → r ≡ Some behind → length l' ≡ length l → Expanding edition file rows n l₀ l' behind (k + 1)
     unfolding laid_from
-    expanding-turn e g =
-        let f : fails_at edition file rows (length l₀) k ≡ false = sym fails-is ∙ e in
+    expanding-turn behind e g =
+        let f : fails_at edition file rows (length l₀) k ≡ false = sym fails-is ∙ rw e in
         record {
           within = omega arith;
-          walked = s.walked;
+          walked = s.walked behind e;
           long = g ∙ x.long;
           first = such-further (fails_at edition file rows (length l₀)) k n h f ∙ x.first;
           rest = rw (laid-is, add-one k) (rw (left, f, add-one k) at x.rest);

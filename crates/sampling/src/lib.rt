@@ -12,18 +12,11 @@ ghost use Rattle.sampling.specs.Inside.{ShapeSampled, NewTo, IsNew, RowSampled};
 use file::Walk;
 use shape::{Edition, Expanded};
 
-// Has a row failed, and where the walk to its stored lines stands.
-#[derive(Clone, Copy)]
-struct Turned {
-    failed: bool,
-    walk: Walk,
-}
-
 // The size of number c of row k.
 fn size_at(rows: &[i64], k: usize, c: usize) -> usize
     ensures { result ≡ nat_abs (number_at rows.now k c) }
 {
-    signed::size(tables::number(rows, k, c)) as usize
+    tables::number(rows, k, c).unsigned_abs() as usize
 }
 
 // Has expanding failed?
@@ -49,7 +42,8 @@ fn expand_shape(
     has_failed(expanding::expand(stored, num, edition, &mut samples[from..to]))
 }
 
-// Expands row k, if it is a shape: its stored lines are sought from where the walk stands, which passed the shapes of the rows before.
+// Expands row k, if it is a shape: its stored lines are sought from where the walk stands, which passed the shapes of the rows before. The walk behind
+// them; none if the shape fails.
 fn expand_row(
     file: &[u8],
     walk: Walk,
@@ -57,28 +51,21 @@ fn expand_row(
     rows: &[i64],
     k: usize,
     samples: &mut [i64],
-) -> Turned
+) -> Option<Walk>
     requires file_value { sound_of file.now ≡ true }
     requires walked { Walked file.now (NewTo rows.now k) walk }
     requires new { IsNew rows.now k }
     ensures { RowSampled edition file.now rows.now k samples.old result samples.new }
 {
-    if signed::same(tables::number(rows, k, 0), 11) {
-        let sought = stored::stored_next(file, walk, tables::number(rows, k, 1));
-        let part = sought.part;
-        let start = part.start;
-        let stop = part.stop;
-        let failed = expand_shape(&file[start..stop], edition, rows, k, samples);
-        let behind = sought.walk;
-        return Turned {
-            failed,
-            walk: behind,
-        };
+    if tables::number(rows, k, 0) != tables::SHAPE {
+        return Some(walk);
     }
-    Turned {
-        failed: false,
-        walk,
+    let sought = stored::stored_next(file, walk, tables::number(rows, k, 1));
+    let part = sought.part;
+    if expand_shape(&file[part.start..part.stop], edition, rows, k, samples) {
+        return None;
     }
+    Some(sought.walk)
 }
 
 // Expands the shapes of n rows, each at its place among the lent samples, up to the first that fails; answers its row, n if none fails. Their stored
@@ -98,11 +85,10 @@ pub fn expand_shapes(
 {
     let mut walk = shapes;
     for k in 0..n {
-        let turned = expand_row(file, walk, edition, rows, k, samples);
-        if turned.failed {
-            return k;
+        match expand_row(file, walk, edition, rows, k, samples) {
+            Some(behind) => walk = behind,
+            None => return k,
         }
-        walk = turned.walk;
     }
     n
 }

@@ -1,12 +1,15 @@
 -- `duplicates::row_names` meets its contract. Assumes nothing.
-use mathlib.Core.Path.{refl, ◌∙◌}
-use Rattle.signed.proofs.Machine.{rd-is}
-use Rattle.tables.proofs.Numbers.{compared}
-use Rattle.duplicates.proofs.Naming.{names-extension, names-nothing}
+use Rattle.std.proofs.Common.{arith}
+use Rattle.std.proofs.lemmas.Grind.{common_steps}
+use Rattle.std.proofs.lemmas.Int.{to_z-of_z}
+use Rattle.signed.specs.Signed.{same_z}
+use Rattle.duplicates.specs.Words.{row_names}
 use Rattle.duplicates.proofs.row_names.Goals as goal
 
-pub returns-then-same : goal.returns-then-same
-returns-then-same c = names-extension _ (compared _ _ _ _ c.same.ensures (rd-is c.ranges.kind) refl ∙ c.if-same.true)
+pub returns-then-kind-eq-EXTENSION : goal.returns-then-kind-eq-EXTENSION
+unfolding row_names same_z
+returns-then-kind-eq-EXTENSION c = grind (arith, common_steps, to_z-of_z)
 
 pub returns : goal.returns
-returns c = names-nothing _ (compared _ _ _ _ c.same.ensures (rd-is c.ranges.kind) refl ∙ c.if-same.false)
+unfolding row_names same_z
+returns c = grind (arith, common_steps, to_z-of_z)

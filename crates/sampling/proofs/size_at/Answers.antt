@@ -5,4 +5,4 @@ use Rattle.signed.proofs.Machine.{rd-at}
 use Rattle.sampling.proofs.size_at.Goals as goal
 
 pub returns : goal.returns
-returns c = c.size.ensures ∙ ap nat_abs (rd-at _ c.number.type_inv ∙ c.number.ensures)
+returns c = c.unsigned_abs.ensures.value ∙ ap nat_abs (rd-at _ c.number.type_inv ∙ c.number.ensures)
