@@ -59,16 +59,12 @@ fn behind_values(file: &[u8], from: Walk) -> Walk
 fn is_shape(did: Stepped, id: i64) -> bool
     ensures { result ≡ is_shape id did }
 {
-    let found = did.found;
-    if file::row_count(found) == 0 {
+    if file::row_count(did.found) == 0 {
         return false;
     }
     let kind = did.cells[0];
-    if !signed::same(kind, 11) {
-        return false;
-    }
     let number = did.cells[1];
-    signed::same(number, id)
+    kind == 11 && number == id
 }
 
 // Is this the row of a shape: of any, or of the one with this ID?
@@ -149,8 +145,7 @@ pub fn stored_next(file: &[u8], walk: Walk, id: i64) -> Sought
     ensures { result ≡ next_of file.now walk id }
 {
     let next = seek(file, walk, true, id);
-    let own = next.id;
-    if signed::same(own, id) {
+    if next.id == id {
         return next;
     }
     Sought {

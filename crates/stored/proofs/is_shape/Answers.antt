@@ -1,18 +1,20 @@
 -- `stored::is_shape` meets its contract. Assumes nothing.
-use mathlib.Core.Path.{sym, ◌∙◌, ap}
-use Rattle.signed.proofs.Machine.{rd-at, rd-is}
-use Rattle.stored.proofs.Stored.{shape-none, shape-other, shape_same}
-use lib.IntN.{ℤ, pos}
+use Rattle.std.proofs.Common.{◌≡◌, ◌∙◌, sym, true, false, pos, get_or, arith}
+use borrow.Author.Tests.{eq-eqb, ne_eqb}
 use Rattle.signed.specs.Signed.{same_z}
+use Rattle.signed.proofs.Sign.{same_bits, same_number}
+use Rattle.stored.proofs.Stored.{shape-none, shape-other, shape_same}
 use Rattle.stored.proofs.is_shape.Goals as goal
 
 pub returns-then-row_count-eq0 : goal.returns-then-row_count-eq0
 returns-then-row_count-eq0 c = shape-none _ _ _ c.row_count.ensures c.if-row_count-eq0.true
 
-pub returns-then-not-same : goal.returns-then-not-same
-returns-then-not-same c = let same = c.same.ensures ∙ ap (λ (z : ℤ). same_z z (pos 11)) (rd-at _ c.kind-1.given) in
-    shape-other _ _ _ c.row_count.ensures c.if-row_count-eq0.false (sym same ∙ c.if-not-same.true)
+pub returns-then-kind-eq11 : goal.returns-then-kind-eq11
+returns-then-kind-eq11 c =
+    let own : same_z (get_or c.args.did.cells 0 (pos 0)) (pos 11) ≡ true = sym (same_number _ 11 c.kind-1.given (omega arith)) ∙ eq-eqb _ _ c.if-kind-eq11.true in
+    same_bits _ _ c.number-1.given c.ranges.id.sfits ∙ shape_same _ _ _ c.row_count.ensures c.if-row_count-eq0.false own
 
-pub returns : goal.returns
-returns c = let same = c.same.ensures ∙ ap (λ (z : ℤ). same_z z (pos 11)) (rd-at _ c.kind-1.given) in
-    c.same-2.ensures ∙ rw (rd-at _ c.number-1.given, rd-is c.ranges.id) (shape_same _ _ _ c.row_count.ensures c.if-row_count-eq0.false (sym same ∙ c.if-not-same.false))
+pub returns-else-kind-eq11 : goal.returns-else-kind-eq11
+returns-else-kind-eq11 c =
+    let own : same_z (get_or c.args.did.cells 0 (pos 0)) (pos 11) ≡ false = sym (same_number _ 11 c.kind-1.given (omega arith)) ∙ ne_eqb _ _ c.if-kind-eq11.false in
+    ne_eqb _ _ c.if-kind-eq11.false ∙ shape-other _ _ _ c.row_count.ensures c.if-row_count-eq0.false own
