@@ -1,12 +1,11 @@
 // What is met again in a file: a key among its definitions, a name among its extensions, an ID or type among its rows.
 #![tactic(auto)]
 
-ghost use Rattle.std.specs.Prelude.{◌≡◌, ◌+◌, ◌≤◌, true, ltb, length, drop};
-ghost use Rattle.text.specs.Lines.{lines_of};
+ghost use Rattle.std.specs.Prelude.{◌≡◌, ◌+◌, ◌≤◌, true, ltb, length};
 ghost use Rattle.file.specs.Marks.{met_walk};
 ghost use Rattle.passing.specs.Sound.{sound_of};
 ghost use Rattle.sets.specs.Sets.{kept_of, places_after, unless_new};
-ghost use Rattle.duplicates.specs.Words.{row_names, once_of, word_of, sort_number, word_at, words_from, words_of, next_line, earlier, again_line, duplicate_line};
+ghost use Rattle.duplicates.specs.Words.{row_names, once_of, word_of, sort_number, word_at, words_of, next_line, earlier, again_line, duplicate_line};
 ghost use Rattle.duplicates.specs.Inside.{names_word, section_with, is_left, words_ahead, AskedAgain, in_part, ask_first, keep_first, word_line, no_word, same_word, number_of, word_number, any_word, stood_before};
 ghost use Rattle.duplicates.specs.Again.{FirstLine};
 

@@ -40,6 +40,7 @@ impl<'a> Iterator for FieldsIn<'a> {
 
     ghost remaining = { item_count (λ s. fields_of s.0.now) };
 
+    // The next field; what is left of the line is what stands behind it.
     fn next(&mut self) -> Option<&'a [u8]> {
         let line = self.0;
         let Part { start, stop } = next_field(line, 0);

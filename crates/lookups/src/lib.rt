@@ -5,7 +5,7 @@
 ghost use Rattle.std.specs.Prelude.{◌≡◌};
 ghost use Rattle.file.specs.Rows.{scanned_of};
 ghost use Rattle.lookups.specs.Looking.{is_at_fault, is_faulty, looked_up, stored_up};
-ghost use Rattle.lookups.specs.Spots.{source_number, spot_number, spot_start, spot_length, spot_in, either_spot, definition_spot, stored_spot};
+ghost use Rattle.lookups.specs.Spots.{source_number, spot_number, spot_start, spot_length, spot_in, definition_spot, stored_spot};
 
 use fields::Part;
 

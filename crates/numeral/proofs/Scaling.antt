@@ -1,11 +1,11 @@
 -- Laws of powers of ten: a number scaled up into a range, scaled down exactly, and scaled down to the nearest. Assumes nothing.
 use Rattle.std.proofs.Common.{None, Option}
-use Prim.Native.Nat.{ℕ, suc, ◌+◌, ◌*◌, ◌-◌, ◌/◌, ◌%◌, ◌^◌, ◌<◌, ◌≤◌}
+use Prim.Native.Nat.{ℕ, zero, suc, ◌+◌, ◌*◌, ◌-◌, ◌/◌, ◌%◌, ◌^◌, ◌<◌, ◌≤◌}
 use mathlib.Core.Bool.{cond}
 use mathlib.Core.List.{[], ◌∷◌}
 use mathlib.Core.Path.{◌≡◌, sym, ap, ◌∙◌}
 use native.Mathlib.Omega.{arith}
-use native.Mathlib.Nat.{one-le-pow, pow-suc, pow-le-pow_right, mul-le-mul_right, lt_of_lt_of_le, le-div_iff_mul-le, div-lt_iff_lt-mul, mod-eq_of_lt, div-eq_of_lt, div-div-eq-div-mul, add-mul-div_left}
+use native.Mathlib.Nat.{one-le-pow, pow-zero, pow-suc, mul-one, mul_assoc, add-zero, add-suc, mul-lt-mul_of_pos_right, pow-le-pow_right, mul-le-mul_right, lt_of_lt_of_le, le-div_iff_mul-le, div-lt_iff_lt-mul, mod-eq_of_lt, div-eq_of_lt, div-div-eq-div-mul, add-mul-div_left}
 use borrow.Author.Tests.{eq-eqb, ne_eqb}
 use lib.Dec.{eqb, lit<}
 use lib.ListN.{get_or}
@@ -23,6 +23,10 @@ ten-most h = pow-le-pow_right {n = 10} (lit< tt) h
 pub power-some : {p : ℕ} (k : ℕ) → p ≡ 10 ^ k → 0 < p
 power-some k e = rw e (ten-some k)
 
+ten-plus : (a k : ℕ) → 10 ^ a * 10 ^ k ≡ 10 ^ (a + k)
+ten-plus a zero = rw (pow-zero, mul-one, add-zero)
+ten-plus a (suc k) = rw (pow-suc 10 k, add-suc, pow-suc 10 (a + k)) (sym (mul_assoc (10 ^ a) (10 ^ k) 10) ∙ ap (λ (x : ℕ). x * 10) (ten-plus a k))
+
 -- the powers in the code's table
 pub power-at : (k : ℕ) → k ≤ 18 → get_or (1 ∷ 10 ∷ 100 ∷ 1000 ∷ 10000 ∷ 100000 ∷ 1000000 ∷ 10000000 ∷ 100000000 ∷ 1000000000 ∷ 10000000000 ∷ 100000000000 ∷ 1000000000000 ∷ 10000000000000 ∷ 100000000000000 ∷ 1000000000000000 ∷ 10000000000000000 ∷ 100000000000000000 ∷ 1000000000000000000 ∷ []) k 0 ≡ 10 ^ k
 power-at k h = get_or-map-range_with_len (λ n. 10 ^ n) 0 19 k k 0 (omega arith) (omega arith)
@@ -36,8 +40,15 @@ module _ (low high v k : ℕ) where
       range-above low high (v * 10 ^ k) (omega arith)
 
   module _ {p : ℕ} (e : p ≡ 10 ^ k) where
-    pub up-over : (v * p < 2 ^ 64 → ⊥) → high < 10 ^ 19 → None ≡ in_range low high (v * 10 ^ k)
-    up-over n b = range-above low high (v * 10 ^ k) (rw (← e) (omega arith))
+    pub up-over : 10 ^ 19 ≤ v * p → high < 10 ^ 19 → None ≡ in_range low high (v * 10 ^ k)
+    up-over o b = range-above low high (v * 10 ^ k) (rw (← e) (omega arith))
+
+    -- that the product stays below 10 ^ 19, as another power tells it
+    pub up-most : k ≤ 18 → (rest : ℕ) → rest ≡ 10 ^ (18 - k) → v < rest * 10 → v * p < 10 ^ 19
+    up-most h rest r o =
+        let m : suc (18 - k) + k ≡ 19 = omega arith in
+        let whole : rest * 10 * 10 ^ k ≡ 10 ^ 19 = rw (r, ← pow-suc 10 (18 - k)) (ten-plus (suc (18 - k)) k ∙ ap (λ (n : ℕ). 10 ^ n) m) in
+        rw (e, ← whole) (mul-lt-mul_of_pos_right o (ten-some k))
 
     pub up_is : {n : ℕ} → n ≡ v * p → in_range low high n ≡ in_range low high (v * 10 ^ k)
     up_is q = rw (q, e)

@@ -1,10 +1,9 @@
 // What is met again in a file, from its text alone: an ID or type among its rows, a name among its extensions, a key among its definitions.
 #![tactic(auto)]
 
-ghost use Rattle.std.specs.Prelude.{true, ◌&&◌, ◌≡◌, ◌+◌, ◌≤◌, ltb, length, drop};
-ghost use Rattle.text.specs.Lines.{lines_of};
+ghost use Rattle.std.specs.Prelude.{true, ◌&&◌, ◌≡◌, ◌+◌, ◌≤◌, ltb, length};
 ghost use Rattle.passing.specs.Sound.{sound_of};
-ghost use Rattle.file.specs.Rows.{rows_from, rows_of};
+ghost use Rattle.file.specs.Rows.{rows_of};
 ghost use Rattle.repeats.specs.Repeats.{next_row, rows_again, duplicate_of};
 ghost use Rattle.repeats.specs.Inside.{gives_row, row_given, no_row, same_row, row_number, row_open, stood_before, noted_by, class_no, id_no};
 ghost use Rattle.sets.specs.Sets.{kept_of, places_after, unless_new, is_in};
@@ -13,7 +12,7 @@ ghost use Rattle.again.specs.Inside.{Noted};
 ghost use Rattle.duplicates.specs.Again.{FirstLine};
 ghost use Rattle.duplicates.specs.Inside.{AskedAgain, in_part, ask_first, keep_first, row_line};
 
-use places::{State, Stepped};
+use places::Stepped;
 use sets::Kept;
 
 // Did a line, which gave this, give a row of the class with the ID?

@@ -11,7 +11,7 @@ ghost use Rattle.stored.specs.Inside.{behind_from, is_wanted, sought_of, next_of
 
 use fields::Part;
 use file::Walk;
-use places::{State, Stepped};
+use places::Stepped;
 use text::Mark;
 
 // Where stored lines stand, the ID of their shape, and the walk from which the next shape is sought.
