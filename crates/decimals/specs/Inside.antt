@@ -79,7 +79,7 @@ pair_of negative v s =
 unfoldable pub pointed_of : Bool → ℕ → ℕ → Option Decimal
 pointed_of negative v f = pair_of negative (strip_from v 0).v (200 + (strip_from v 0).zeros - f)
 
-unfoldable pub joined : Bool → Option Mantissa → (Option ℕ) → Option Decimal
+unfoldable pub joined : Bool → Option Mantissa → Option ℕ → Option Decimal
 joined negative (Some m) (Some x) = pair_of negative m.v (x + m.zeros - m.behind)
 joined negative (Some m) None = None
 joined negative None x = None

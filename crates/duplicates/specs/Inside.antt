@@ -12,7 +12,7 @@ use Rattle.duplicates.specs.declared.Ahead.TheVariants.{Here, Names, Nowhere}
 use Rattle.duplicates.specs.Words.{Word, words_of, word_of, sort_number, is_same, next_line}
 
 -- does a line name this word?
-unfoldable pub names_word : List ℕ → (Option Sort) → Sort → List ℕ → Bool
+unfoldable pub names_word : List ℕ → Option Sort → Sort → List ℕ → Bool
 names_word line None sort word = false
 names_word line (Some own) sort word = eqb (sort_number own) (sort_number sort) && same_bytes (word_of line own) word
 

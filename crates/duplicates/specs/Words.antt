@@ -43,7 +43,7 @@ pub record Word : Type 0 where
   pub word : List ℕ
 
 -- one, or none where the line names nothing
-unfoldable pub words_in : ℕ → List ℕ → (Option Sort) → List Word
+unfoldable pub words_in : ℕ → List ℕ → Option Sort → List Word
 words_in n l None = []
 words_in n l (Some sort) = record { line = n; sort = sort; word = word_of l sort } ∷ []
 

@@ -19,7 +19,7 @@ unfoldable pub repeated : ℕ → Decimal → Trace Decimal → Trace Decimal
 repeated zero d t = t
 repeated (suc n) d t = next d (repeated n d t)
 
-unfoldable pub counted : (Option ℕ) → Decimal → Trace Decimal → Trace Decimal
+unfoldable pub counted : Option ℕ → Decimal → Trace Decimal → Trace Decimal
 counted (Some n) d t = repeated n d t
 counted None d t = fault
 
@@ -39,7 +39,7 @@ unfoldable mutual
   pair_of d (c ∷ ds) = counted (whole_of c 0 0 1000000) d (fresh_of ds)
 
 -- ---- "Run-length samples are running sums"; a plain value is a sample by itself
-unfoldable pub then_sum : (Option ℤ) → (ℤ → Trace ℤ) → Trace ℤ
+unfoldable pub then_sum : Option ℤ → (ℤ → Trace ℤ) → Trace ℤ
 then_sum (Some z) k = next z (k z)
 then_sum None k = fault
 

@@ -70,11 +70,11 @@ told true l = good l
 told false l = bad
 
 -- what comes of a run of n values, whatever follows
-unfoldable pub ran_to : ℕ → List ℤ → ℕ → (Option ℤ) → Trace Decimal → Verdict
+unfoldable pub ran_to : ℕ → List ℤ → ℕ → Option ℤ → Trace Decimal → Verdict
 ran_to num l at (Some s) t = judged num l at (sums_of s t)
 ran_to num l at None t = bad
 
-pub record Ran (num : ℕ) (l m : List ℤ) (at n : ℕ) (sum : ℤ) (d : Decimal) (r : (Option ℤ)) : Type 0 where
+pub record Ran (num : ℕ) (l m : List ℤ) (at n : ℕ) (sum : ℤ) (d : Decimal) (r : Option ℤ) : Type 0 where
   pub same : (t : Trace Decimal) → judged num l at (sums_of sum (repeated n d t)) ≡ ran_to num m (at + n) r t
   pub fits : (s : ℤ) → r ≡ Some s → at + n ≤ num
 
@@ -120,9 +120,9 @@ pub record PairWent (text : List ℕ) (num : ℕ) (l m : List ℤ) (from at : �
   pub ready : Ready num r
 
 -- ---- Why lines are refused that were not laid, by their count
-unfoldable pub refusal_of : (Option ℕ) → Expanded
-refusal_of (Some n) = (Err Shape)
-refusal_of None = (Err Field)
+unfoldable pub refusal_of : Option ℕ → Expanded
+refusal_of (Some n) = Err Shape
+refusal_of None = Err Field
 
 -- n samples zs, as many as declared, stand at the front of a table
 pub record Laid (n num : ℕ) (m : List ℤ) (zs : List ℤ) : Type 0 where

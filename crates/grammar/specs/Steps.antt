@@ -58,7 +58,7 @@ unfoldable pub definition_step : State → List ℕ → Stepped
 definition_step st line = cond (is_definition line) (defined_of st) (refused_of st FieldFault)
 
 -- ---- Rows by their columns
-unfoldable pub given_row : State → ℕ → (Option (List ℤ)) → Stepped
+unfoldable pub given_row : State → ℕ → Option (List ℤ) → Stepped
 given_row st n (Some cells) = gave_of st n cells
 given_row st n None = refused_of st FieldFault
 
@@ -67,7 +67,7 @@ row_step st n form fields = given_row st n (row_is form (row_from (columns_of st
 
 -- ---- "EXTENSIONS id, type, ref, next, until a line `extension NAME type`, whose rows follow." "8 extension (type; 0 unknown, 1 TRIGGERS, 2
 -- LABELSET, 3 LABELINC)", "10 label (id, 0 set or 1 increment, value, label 1 to 13 as listed)"
-unfoldable pub label_row : State → ℕ → Bool → (Option LabelLine) → Stepped
+unfoldable pub label_row : State → ℕ → Bool → Option LabelLine → Stepped
 label_row st n increment (Some line) = gave_of st n (padded label_kind (pos line.id ∷ pos (cond increment 1 0) ∷ line.value ∷ pos line.label ∷ []))
 label_row st n increment None = refused_of st FieldFault
 
@@ -78,7 +78,7 @@ label_step st n increment fields = label_row st n increment (label_of st.edition
 unfoldable pub listed_of : ℕ → Listed
 listed_of code = cond (eqb code 1) Triggers (cond (eqb code 2) (Labels false) (cond (eqb code 3) (Labels true) Unknown))
 
-unfoldable pub extension_row : State → ℕ → (Option ExtensionLine) → Stepped
+unfoldable pub extension_row : State → ℕ → Option ExtensionLine → Stepped
 extension_row st n (Some line) = gave_of (moved_of st (Extensions (listed_of line.code))) n (padded extension_kind (pos line.number ∷ pos line.code ∷ []))
 extension_row st n None = refused_of st FieldFault
 
@@ -105,7 +105,7 @@ shape_id_word = 115 ∷ 104 ∷ 97 ∷ 112 ∷ 101 ∷ 95 ∷ 105 ∷ 100 ∷ []
 unfoldable pub num_samples_word : List ℕ
 num_samples_word = 110 ∷ 117 ∷ 109 ∷ 95 ∷ 115 ∷ 97 ∷ 109 ∷ 112 ∷ 108 ∷ 101 ∷ 115 ∷ []
 
-unfoldable pub head_row : State → ℕ → (Option ℕ) → Stepped
+unfoldable pub head_row : State → ℕ → Option ℕ → Stepped
 head_row st n (Some id) = went_of (moved_of st (Head (pos id) n))
 head_row st n None = refused_of st FieldFault
 
@@ -116,7 +116,7 @@ head_step st n fields = head_row st n (word_number_of shape_id_word 1 largest_id
 unfoldable pub counted_of : State → ℕ → State
 counted_of st num = record { place = Values; edition = st.edition; seen = st.seen; samples = min (st.samples + num) largest }
 
-unfoldable pub count_row : State → ℤ → ℕ → (Option ℕ) → Stepped
+unfoldable pub count_row : State → ℤ → ℕ → Option ℕ → Stepped
 count_row st id n (Some num) = gave_of (counted_of st num) n (padded shape_kind (id ∷ pos num ∷ pos (min st.samples largest) ∷ []))
 count_row st id n None = refused_of st FieldFault
 

@@ -49,7 +49,7 @@ abbrev pub Label : ℕ → ℤ → ℕ → Option LabelLine
 Label id value label = Some (record { id = id; value = value; label = label })
 
 -- "10 label (id, 0 set or 1 increment, value, label 1 to 13 as listed)": the id, the value and the label of a line
-unfoldable pub label_head : (Option ℕ) → (Option ℤ) → ℕ → Option LabelLine
+unfoldable pub label_head : Option ℕ → Option ℤ → ℕ → Option LabelLine
 label_head (Some id) (Some v) label = Label id v label
 label_head (Some id) None label = None
 label_head None v label = None
@@ -91,7 +91,7 @@ extension_word = 101 ∷ 120 ∷ 116 ∷ 101 ∷ 110 ∷ 115 ∷ 105 ∷ 111 ∷
 abbrev pub Extension : ℕ → ℕ → Option ExtensionLine
 Extension number code = Some (record { number = number; code = code })
 
-unfoldable pub extension_head : (Option ℕ) → ℕ → Option ExtensionLine
+unfoldable pub extension_head : Option ℕ → ℕ → Option ExtensionLine
 extension_head (Some type) code = Extension type code
 extension_head None code = None
 

@@ -10,6 +10,6 @@ shift_of (pos k) = Up k
 shift_of (negsuc k) = Down (suc k)
 
 -- ---- A size that an i64 holds with either sign
-unfoldable pub Held : (Option ℕ) → Type 0
+unfoldable pub Held : Option ℕ → Type 0
 Held (Some n) = n ≤ largest
 Held None = Unit

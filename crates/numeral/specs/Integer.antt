@@ -18,7 +18,7 @@ unfoldable pub integer_of : ℕ → ℕ → List ℕ → Option ℕ
 integer_of low high s = cond (is_integer s) (in_range low high (value_of s)) None
 
 -- a size with its sign, where there is one
-unfoldable pub signed_as : Bool → (Option ℕ) → Option ℤ
+unfoldable pub signed_as : Bool → Option ℕ → Option ℤ
 signed_as negative (Some n) = Some (signed_of negative n)
 signed_as negative None = None
 

@@ -38,11 +38,11 @@ version_numbers = 3 ∷ 0 ∷ []
 abbrev pub expand_numbers : Expanded → List ℕ
 expand_numbers r = number_of r ∷ used_of r ∷ []
 
-unfoldable pub expand_samples : (Option Edition) → ℕ → List ℕ → ℕ → List ℤ
+unfoldable pub expand_samples : Option Edition → ℕ → List ℕ → ℕ → List ℤ
 expand_samples (Some e) num text room = table_of e num text room
 expand_samples None num text room = zeros room
 
-unfoldable pub expand_answer : (Option Edition) → ℕ → List ℕ → ℕ → List ℕ
+unfoldable pub expand_answer : Option Edition → ℕ → List ℕ → ℕ → List ℕ
 expand_answer (Some e) num text room = expand_numbers (expanded_of e num text room)
 expand_answer None num text room = version_numbers
 
@@ -54,11 +54,11 @@ pub record ExpandTold (text : List ℕ) (num edition : ℕ) (l : List ℤ) (answ
 abbrev pub write_numbers : Written → List ℕ
 write_numbers r = written_number r ∷ length_of r ∷ []
 
-unfoldable pub write_output : (Option Edition) → List ℤ → ℕ → List ℕ
+unfoldable pub write_output : Option Edition → List ℤ → ℕ → List ℕ
 write_output (Some e) zs room = output_of e zs room
 write_output None zs room = replicate room 0
 
-unfoldable pub write_answer : (Option Edition) → List ℤ → ℕ → List ℕ
+unfoldable pub write_answer : Option Edition → List ℤ → ℕ → List ℕ
 write_answer (Some e) zs room = write_numbers (written_of e zs room)
 write_answer None zs room = version_numbers
 
@@ -70,19 +70,19 @@ pub record WriteTold (zs : List ℤ) (edition : ℕ) (l : List ℕ) (answer : Li
 abbrev pub restate_numbers : Restated → List ℕ
 restate_numbers r = restated_number r ∷ restated_line r ∷ rows_read r ∷ samples_read r ∷ text_length r ∷ []
 
-unfoldable pub restate_rows : (Option Edition) → List ℕ → List ℕ → ℕ → ℕ → ℕ → List ℤ
+unfoldable pub restate_rows : Option Edition → List ℕ → List ℕ → ℕ → ℕ → ℕ → List ℤ
 restate_rows (Some e) file site room size space = rows_after e file site room size space
 restate_rows None file site room size space = zeros room
 
-unfoldable pub restate_samples : (Option Edition) → List ℕ → List ℕ → ℕ → ℕ → ℕ → List ℤ
+unfoldable pub restate_samples : Option Edition → List ℕ → List ℕ → ℕ → ℕ → ℕ → List ℤ
 restate_samples (Some e) file site room size space = samples_after e file site room size space
 restate_samples None file site room size space = zeros size
 
-unfoldable pub restate_output : (Option Edition) → List ℕ → List ℕ → ℕ → ℕ → ℕ → List ℕ
+unfoldable pub restate_output : Option Edition → List ℕ → List ℕ → ℕ → ℕ → ℕ → List ℕ
 restate_output (Some e) file site room size space = output_after e file site room size space
 restate_output None file site room size space = replicate space 0
 
-unfoldable pub restate_answer : (Option Edition) → List ℕ → List ℕ → ℕ → ℕ → ℕ → List ℕ
+unfoldable pub restate_answer : Option Edition → List ℕ → List ℕ → ℕ → ℕ → ℕ → List ℕ
 restate_answer (Some e) file site room size space = restate_numbers (restate_of e file site room size space)
 restate_answer None file site room size space = version_numbers
 

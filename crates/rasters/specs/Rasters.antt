@@ -25,11 +25,11 @@ unfoldable pub block_key : List ℕ
 block_key = 66 ∷ 108 ∷ 111 ∷ 99 ∷ 107 ∷ 68 ∷ 117 ∷ 114 ∷ 97 ∷ 116 ∷ 105 ∷ 111 ∷ 110 ∷ 82 ∷ 97 ∷ 115 ∷ 116 ∷ 101 ∷ 114 ∷ []
 
 -- ---- One raster in ns, from its text; 0 where it is absent or bad. 10^9 ns are a second
-unfoldable pub whole_or0 : (Option ℕ) → ℕ
+unfoldable pub whole_or0 : Option ℕ → ℕ
 whole_or0 (Some n) = n
 whole_or0 None = 0
 
-unfoldable pub worth_of : (Option Decimal) → ℕ
+unfoldable pub worth_of : Option Decimal → ℕ
 worth_of (Some d) = whole_or0 (whole_of d 9 1 1000000)
 worth_of None = 0
 

@@ -31,15 +31,15 @@ unfoldable pub word_at : List ℕ → ℕ → List ℕ
 word_at line i = take (word_len (drop i line)) (drop i line)
 
 -- a word behind k digits worth v that stop at i: with these at most 10 digits, and nothing else
-unfoldable pub gathered_of : ℕ → ℕ → ℕ → List ℕ → (Option (ℕ × ℕ))
+unfoldable pub gathered_of : ℕ → ℕ → ℕ → List ℕ → Option (ℕ × ℕ)
 gathered_of v k i w = cond (leb (k + length w) 10 && all_digits w) (Some ((value_from v w), (i + length w))) None
 
 -- what was taken at a place of a line for a column, with whatever columns follow
-pub record CellIs (line : List ℕ) (at : ℕ) (kind : Kind) (c : (Option Cell)) (width behind : ℕ) : Type 0 where
+pub record CellIs (line : List ℕ) (at : ℕ) (kind : Kind) (c : Option Cell) (width behind : ℕ) : Type 0 where
   pub wide : width_of kind ≡ width
   pub rest : (ks : List Kind) → row_from (kind ∷ ks) (fields_of (drop at line)) ≡ with c (row_from ks (fields_of (drop behind line)))
 
-abbrev pub TakenIs : List ℕ → ℕ → Kind → (Option (Cell × ℕ)) → Type 0
+abbrev pub TakenIs : List ℕ → ℕ → Kind → Option (Cell × ℕ) → Type 0
 TakenIs line at kind (Some (One v, behind)) = CellIs line at kind (Some (One v)) 1 behind
 TakenIs line at kind (Some (Two a b, behind)) = CellIs line at kind (Some (Two a b)) 2 behind
 TakenIs line at kind None = (ks : List Kind) → row_from (kind ∷ ks) (fields_of (drop at line)) ≡ None
@@ -58,7 +58,7 @@ pub record WordIs (text : List ℕ) (start v stop : ℕ) : Type 0 where
   pub along : Along text start stop
   pub word : Some (v, (stop - start)) ≡ gathered_of 0 0 0 (word_at (bare_of (drop start text)) 0)
 
-abbrev pub GatheredIs : List ℕ → ℕ → (Option (ℕ × ℕ)) → Type 0
+abbrev pub GatheredIs : List ℕ → ℕ → Option (ℕ × ℕ) → Type 0
 GatheredIs text start (Some (v, stop)) = WordIs text start v stop
 GatheredIs text start None = Unit
 
@@ -67,6 +67,6 @@ pub record NumberIs (text : List ℕ) (at : ℕ) (kind : Kind) (v stop : ℕ) : 
   pub along : Along text at stop
   pub cell : CellIs (bare_of (drop at text)) 0 kind (Some (One (signed_of false (min v largest)))) 1 (stop - at)
 
-abbrev pub ColumnIs : List ℕ → ℕ → Kind → (Option (ℕ × ℕ)) → Type 0
+abbrev pub ColumnIs : List ℕ → ℕ → Kind → Option (ℕ × ℕ) → Type 0
 ColumnIs text at kind (Some (v, stop)) = NumberIs text at kind v stop
 ColumnIs text at kind None = Unit

@@ -10,11 +10,11 @@ use Rattle.rows.specs.Cells.{row_from, row_is}
 use Rattle.rows.specs.declared.RowLine.{RowLine}
 
 -- a line that may stand in a file, read as a row
-unfoldable pub allowed_row : Edition → Form → List ℕ → (Option (List ℤ))
+unfoldable pub allowed_row : Edition → Form → List ℕ → Option (List ℤ)
 allowed_row edition form line = row_is form (cond (breaks_line line) None (row_from (columns_of edition form) (fields_of line)))
 
 -- a row, and where the line behind it starts
-unfoldable pub placed_row : (Option (List ℤ)) → ℕ → RowLine
+unfoldable pub placed_row : Option (List ℤ) → ℕ → RowLine
 placed_row row next = record { row = row; next = next }
 
 -- the line of a text that starts at a place

@@ -23,7 +23,7 @@ unfoldable pub numbers_at : List ℤ → ℕ → List ℤ
 numbers_at rows k = numbers_from rows k 0 row_width
 
 -- ---- "duration (1.3: delay ID)": what a target says for the duration of block k, of n rows
-unfoldable pub steps_of : (Option RasterCount) → ℕ
+unfoldable pub steps_of : Option RasterCount → ℕ
 steps_of (Some count) = count.0
 steps_of None = 0
 

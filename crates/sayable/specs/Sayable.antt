@@ -32,7 +32,7 @@ unfoldable pub has_time : List ℤ → ℕ → Bool
 has_time rows k = has_number rows k (pos (form_number Rf)) 6 || has_number rows k (pos (form_number Gradient)) 5
 
 -- "a block is not whole µs"
-unfoldable pub is_between : (Option Micros) → Bool
+unfoldable pub is_between : Option Micros → Bool
 is_between (Some m) = false
 is_between None = true
 
@@ -48,7 +48,7 @@ unfoldable pub differ : Rasters → Rasters → Bool
 differ q s = not (eqb q.gradient.0 s.gradient.0) || not (eqb q.rf.0 s.rf.0)
 
 -- ---- "for 1.4.1, .. a block is not 0 to 10^9 whole BlockDurationRasters"
-unfoldable pub not_steps : (Option RasterCount) → Bool
+unfoldable pub not_steps : Option RasterCount → Bool
 not_steps (Some c) = ltb (10 ^ 9) c.0
 not_steps None = true
 

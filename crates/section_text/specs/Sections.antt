@@ -39,7 +39,7 @@ unfoldable pub section_text : Edition → ℕ → Form → List ℤ → ℕ → 
 section_text target raster form rows n = section_of (has_kind (pos (form_number form)) rows n) (head_text form) (rows_text target raster form rows n)
 
 -- ---- DELAYS for 1.3.1: a row for each first use, its number and its µs
-unfoldable pub whole_micros : (Option Micros) → ℕ
+unfoldable pub whole_micros : Option Micros → ℕ
 whole_micros (Some m) = m.0
 whole_micros None = 0
 

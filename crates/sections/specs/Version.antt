@@ -22,7 +22,7 @@ minor_word = 109 ∷ 105 ∷ 110 ∷ 111 ∷ 114 ∷ []
 unfoldable pub revision_word : List ℕ
 revision_word = 114 ∷ 101 ∷ 118 ∷ 105 ∷ 115 ∷ 105 ∷ 111 ∷ 110 ∷ []
 
-unfoldable pub version_row : State → State → (Option ℕ) → Stepped
+unfoldable pub version_row : State → State → Option ℕ → Stepped
 version_row st next (Some v) = went_of next
 version_row st next None = refused_of st VersionFault
 
@@ -30,7 +30,7 @@ version_row st next None = refused_of st VersionFault
 unfoldable pub edition_of : ℕ → Edition
 edition_of minor = cond (eqb minor 3) V13 V14
 
-unfoldable pub minor_row : State → (Option ℕ) → Stepped
+unfoldable pub minor_row : State → Option ℕ → Stepped
 minor_row st (Some v) = went_of (record { place = Version Revision; edition = edition_of v; seen = st.seen; samples = st.samples })
 minor_row st None = refused_of st VersionFault
 

@@ -14,7 +14,7 @@ is_plain V14 num count = eqb count num
 
 -- ---- "Each value, a plain one too, is then rounded to a multiple of 10^-12, ties away from zero; run-length samples are running sums. A
 -- value beyond ±200,000, a sample beyond ±100,000 .. is SHAPE." 100,000 are 10^17 steps.
-unfoldable pub sum_to : ℤ → (Option ℤ) → Option ℤ
+unfoldable pub sum_to : ℤ → Option ℤ → Option ℤ
 sum_to s (Some v) = within (10 ^ 17) (s +ℤ v)
 sum_to s None = None
 

@@ -12,7 +12,7 @@ use Rattle.shape.specs.declared.Item.{Item}
 use Rattle.shape.specs.declared.Item.TheVariants.{Value, Skipped, Bad}
 
 -- ---- One line: a comment is skipped, and anything else that is not one decimal is at fault
-unfoldable pub number_item : (Option Decimal) → Item
+unfoldable pub number_item : Option Decimal → Item
 number_item (Some d) = Value d
 number_item None = Bad
 
