@@ -2,16 +2,12 @@
 use Prim.Native.Nat.{ℕ, ◌+◌, ◌*◌, ◌/◌, ◌≤◌, ◌<◌}
 use mathlib.Core.Bool.{Bool, true, false, cond, ◌&&◌, and-true, and-false}
 use mathlib.Core.List.{List}
-use mathlib.Core.Path.{◌≡◌, refl, sym, ap, ◌∙◌}
-use borrow.Author.Tests.{lt-ltb, le-ltb, eq-eqb, ne_eqb}
-use lib.Dec.{eqb, ltb}
+use mathlib.Core.Path.{◌≡◌, refl, sym}
+use borrow.Author.Tests.{lt-ltb, le-ltb}
+use lib.Dec.{ltb}
 use lib.IntN.{ℤ, pos}
 use lib.ListN.{length, get_or}
-use mir.Syntax.{w64}
-use mir.Val.{SFits, of_z}
 use Rattle.signed.specs.Signed.{same_z}
-use Rattle.signed.proofs.Machine.{bits-inj}
-use Rattle.signed.proofs.Sign.{same_z-true, same_z-false}
 use Rattle.tables.specs.Tables.{number_at, class_at, is_row_of}
 
 -- ---- numbers
@@ -41,11 +37,3 @@ module _ (rows : List ℤ) (class id : ℤ) (k : ℕ) (own : ℤ) (p : own ≡ n
 -- what was compared, as it was read
 pub compared : {r : Bool} (a b x y : ℤ) → r ≡ same_z x y → x ≡ a → y ≡ b → same_z a b ≡ r
 compared a b x y e p q = sym (rw (p, q) at e)
-
--- what the machine compares, the bits
-pub same-bits : (a b : ℤ) → SFits w64 a → SFits w64 b → eqb (of_z w64 a) (of_z w64 b) ≡ same_z a b
-same-bits a b f g = go (same_z a b) refl
-  where
-    go : (t : Bool) → same_z a b ≡ t → eqb (of_z w64 a) (of_z w64 b) ≡ same_z a b
-    go true e = eq-eqb _ _ (ap (of_z w64) (same_z-true a b e)) ∙ sym e
-    go false e = ne_eqb _ _ (λ q. same_z-false a b e (bits-inj f g q)) ∙ sym e
