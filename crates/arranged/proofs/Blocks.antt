@@ -21,7 +21,8 @@ use Rattle.references.specs.References.{ref_at, ref_of}
 use Rattle.lengths.specs.Lengths.{count_at, micros_at, length_of, length_at}
 use Rattle.blocks.specs.Blocks.{met_length, reference_length, longest_of, number_length, longest_event, block_length}
 use Rattle.demands.specs.Rules.{Follows}
-use Rattle.demands.proofs.Ruling.{differs, longest-each, each-longest}
+use Rattle.signed.proofs.Sign.{same_z-other}
+use Rattle.demands.proofs.Ruling.{longest-each, each-longest}
 use Rattle.arranged.specs.Alike.{Alike, Arranged}
 use Rattle.arranged.proofs.Lookup.{alike-kind, delays, class-kind, SameSamples}
 use Rattle.arranged.proofs.Lasting.{event-same}
@@ -56,7 +57,7 @@ module _ (q : Rasters) (a : List ℤ) (n : ℕ) (s : List ℤ) where
   -- what a delay row lasts that is met, and what none does
   only-met : (id : ℤ) (r : ℕ) → (id ≡ pos 0 → ⊥) → OnlyRow a n delays id r → met_row a n delays id ≡ r
   unfolding met_row first_row
-  only-met id r z o = rw (differs id (pos 0) z) (only-first (is_row_of a delays id) n r o.there o.is o.only)
+  only-met id r z o = rw (same_z-other id (pos 0) z) (only-first (is_row_of a delays id) n r o.there o.is o.only)
 
   delay-length : (id : ℤ) (r : ℕ) → (id ≡ pos 0 → ⊥) → OnlyRow a n delays id r → reference_length q a n s delays id ≡ micros_at a r 2
   unfolding reference_length met_length length_at length_of same_z

@@ -12,7 +12,7 @@ use lib.IntN.{ℤ, pos, nat_abs}
 use lib.ListN.{length, get_or, drop}
 use Rattle.text.proofs.Cases.{lt-or-ge}
 use Rattle.signed.specs.Signed.{same_z}
-use Rattle.signed.proofs.Sign.{same_z-true}
+use Rattle.signed.proofs.Sign.{same_z-true, same_z-other}
 use Rattle.unit.specs.declared.Rasters.{Rasters}
 use Rattle.shape.specs.declared.Edition.{Edition}
 use Rattle.shape.specs.declared.Edition.TheVariants.{V14}
@@ -26,7 +26,6 @@ use Rattle.references.specs.References.{block_refs, rf_refs, gradient_refs, entr
 use Rattle.lengths.specs.Lengths.{micros_at}
 use Rattle.blocks.specs.Blocks.{met_length, reference_length, number_length, block_length}
 use Rattle.chains.specs.Chains.{next_entry}
-use Rattle.demands.proofs.Ruling.{differs}
 use Rattle.demands.specs.Rules.{Checked, MeetsOne, Chain, last_entry, more-entries, InUnit, Times, Multiple, Shaped, Fits, Aligned, Follows}
 use Rattle.arranged.specs.Alike.{is_anew, Alike, Stands, is_kept, Arranged}
 use Rattle.arranged.proofs.Lookup.{pos-other, alike-kind, alike-back, Meets, neither, both, delays, also-there, met-is, class-kind, SameSamples, samples-same}
@@ -36,7 +35,7 @@ use Rattle.arranged.proofs.Blocks.{Lasts, by-steps, by-none, by-delay, only-firs
 -- ---- A row of a kind other than a delay's stands in the other table too
 pub row-there : {a b : List ℤ} {n m : ℕ} → Arranged a n b m → (j : ℕ) → j < m → (kind : ℕ) → (kind ≡ form_number Delay → ⊥) → number_at b j 0 ≡ pos kind → Stands b j a n
 unfolding is_kept
-row-there {b = b} x j h kind other i = x.back j h (rw (differs (number_at b j 0) delays (λ (e : number_at b j 0 ≡ delays). other (ap nat_abs (sym i ∙ e)))))
+row-there {b = b} x j h kind other i = x.back j h (rw (same_z-other (number_at b j 0) delays (λ (e : number_at b j 0 ≡ delays). other (ap nat_abs (sym i ∙ e)))))
 
 -- ---- REFERENCE: the class that a number refers to
 module _ {a b : List ℤ} {n m : ℕ} (x : Arranged a n b m) (e target : Edition) where

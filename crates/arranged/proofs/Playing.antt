@@ -17,7 +17,7 @@ use Rattle.tables.specs.Tables.{number_at, class_number, is_row_of, first_row, m
 use Rattle.tables.specs.declared.Class.TheVariants.{Block as BlockClass, Rf as RfClass, Gradient as GradientClass, Adc as AdcClass, Entry as EntryClass, Shape as ShapeClass}
 use Rattle.tables.proofs.Found.{first-is}
 use Rattle.references.specs.References.{extension_ref}
-use Rattle.demands.specs.Playing.{none, one, played_at, timing_of, rf_at, gradient_at, adc_at, Extension, unknown, extension_of, extension_at, chain_from, block_at, blocks_from, played_of}
+use Rattle.demands.specs.Playing.{none, one, played_at, timing_of, rf_at, gradient_at, adc_at, unknown, extension_of, extension_at, chain_from, block_at, blocks_from, played_of}
 use Rattle.arranged.specs.Alike.{is_anew, Alike, Arranged, InOrder, no_more, a_block, not-here, not_there}
 use Rattle.arranged.proofs.Lookup.{pos-other, alike-kind, Meets, neither, both, delays, met-meets, met-is, class-kind, kind-keeps, class-keeps, SameSamples, samples-same}
 use Rattle.arranged.proofs.Lasting.{extension-other, extension-same, next-meets, entry_next}

@@ -11,9 +11,9 @@ use lib.Dec.{eqb, ltb, leb}
 use lib.IntN.{ℤ, pos, negsuc, nat_abs}
 use lib.ListN.{length, get_or}
 use lib.Signed.{lt_z, non_neg}
-use Rattle.text.proofs.Cases.{true-or-false, lt-or-ge, and_both, or-none}
+use Rattle.text.proofs.Cases.{lt-or-ge, and_both, or-none}
 use Rattle.signed.specs.Signed.{same_z}
-use Rattle.signed.proofs.Sign.{same_z-refl, same_z-true}
+use Rattle.signed.proofs.Sign.{same_z-refl, same_z-true, same_z-other}
 use Rattle.unit.proofs.Exact.{micros-exact}
 use Rattle.unit.specs.declared.Rasters.{Rasters}
 use Rattle.shape.specs.declared.Edition.{Edition}
@@ -46,9 +46,6 @@ module _ (holds : ℕ → Bool) (n : ℕ) where
       ⊎_elim (λ (h : first_such holds 0 n < n). absurd (true≢false (sym (f.here (omega arith)) ∙ none (first_such holds 0 n) h))) (λ h. h) (lt-or-ge (first_such holds 0 n) n)
 
 -- ---- tests and what they say
-pub differs : (a b : ℤ) → (a ≡ b → ⊥) → same_z a b ≡ false
-differs a b n = ⊎_elim (λ (e : same_z a b ≡ true). absurd (n (same_z-true a b e))) (λ e. e) (true-or-false (same_z a b))
-
 pub same-is : (a b : ℤ) → a ≡ b → same_z a b ≡ true
 same-is a b e = rw e (same_z-refl b)
 
@@ -56,7 +53,7 @@ not_same : (a b : ℤ) → same_z a b ≡ false → a ≡ b → ⊥
 not_same a b e p = true≢false (sym (same-is a b p) ∙ e)
 
 kind-not : (z : ℤ) (a b : ℕ) → z ≡ pos a → (a ≡ b → ⊥) → same_z z (pos b) ≡ false
-kind-not z a b p n = differs z (pos b) (λ (q : z ≡ pos b). n (ap nat_abs (sym p ∙ q)))
+kind-not z a b p n = same_z-other z (pos b) (λ (q : z ≡ pos b). n (ap nat_abs (sym p ∙ q)))
 
 pub not_is : (b : Bool) → not b ≡ false → b ≡ true
 not_is true e = refl
@@ -69,7 +66,7 @@ and-two p q = rw (p, q)
 module _ (e : Edition) (rows : List ℤ) (n : ℕ) (k : ℕ) where
   pub meets : NoneAgain rows n → dangles_at e rows n k ≡ false → (c : ℕ) → c < 12 → Checked e rows n k c → MeetsOne e rows n k c
   meets once d c h x =
-      record { row = _; only = reference-met e rows n k once d c h (differs (ref_at e rows n k c) (pos 0) x.refers) (differs (number_at rows k c) (pos 0) x.nonzero) }
+      record { row = _; only = reference-met e rows n k once d c h (same_z-other (ref_at e rows n k c) (pos 0) x.refers) (same_z-other (number_at rows k c) (pos 0) x.nonzero) }
 
   found-low : (class id : ℤ) (r : ℕ) → OnlyRow rows n class id r → first_row rows n class id < n
   unfolding first_row
@@ -201,7 +198,7 @@ module _ (rows : List ℤ) (n : ℕ) (samples : List ℤ) (k : ℕ) where
   times-of : (c count : ℕ) → time_fits rows n samples (number_at rows k c) count ≡ true → (number_at rows k c ≡ pos 0 → ⊥) → Times count (shape_in c)
   unfolding time_fits
   times-of c count e z =
-      let b = and_both (eqb (length (shape_in c)) count) (rises_from (negsuc 0) (shape_in c)) (rw (differs (number_at rows k c) (pos 0) z) at e) in
+      let b = and_both (eqb (length (shape_in c)) count) (rises_from (negsuc 0) (shape_in c)) (rw (same_z-other (number_at rows k c) (pos 0) z) at e) in
       record {
         many = eqb-true (length (shape_in c)) count b.0;
         whole = whole_of (negsuc 0) (shape_in c) b.1;

@@ -1,8 +1,7 @@
 -- The lines of EXTENSIONS, written word by word. Assumes nothing.
 use Prim.Native.Nat.{ℕ, suc, ◌-◌}
-use mathlib.Core.Bool.{Bool, true, false}
 use mathlib.Core.List.{List, [], ◌∷◌, append_assoc, append-nil}
-use mathlib.Core.Path.{◌≡◌, refl, sym, ap}
+use mathlib.Core.Path.{◌≡◌, sym, ap}
 use native.Mathlib.Omega.{arith}
 use lib.IntN.{ℤ, pos, nat_abs}
 use lib.ListN.{get_or}
@@ -11,7 +10,7 @@ use Rattle.output.proofs.Over.{put_then}
 use Rattle.fields.specs.Fields.{joined, spaced}
 use Rattle.print.specs.Printed.{signed_text}
 use Rattle.signed.specs.Signed.{same_z}
-use Rattle.signed.proofs.Sign.{same_z-true}
+use Rattle.signed.proofs.Sign.{same_z-other}
 use Rattle.shape.specs.declared.Edition.{Edition}
 use Rattle.columns.specs.declared.Form.TheVariants.{Entry, Trigger}
 use Rattle.heads.specs.Heads.{label_names, extension_names, extension_word}
@@ -47,13 +46,6 @@ module _ (rows : List ℤ) (k : ℕ) {l l₁ l₂ l₃ l₄ : List ℕ} {at r₁
   label-put x y label u v w p q s t = rw (← u, ← v, ← w) (three-put _ _ _ p q s t)
 
 -- ---- the line of row k, by its kind
-other : (z y : ℤ) → (z ≡ y → ⊥) → same_z z y ≡ false
-other z y h = go (same_z z y) refl
-  where
-    go : (b : Bool) → same_z z y ≡ b → same_z z y ≡ false
-    go true e = absurd (h (same_z-true z y e))
-    go false e = e
-
 module _ (target : Edition) (rows : List ℤ) (k : ℕ) (z : ℤ) (p : z ≡ number_at rows k 0) where
   pub listed-entry : z ≡ pos 7 → (row : List ℤ) → row ≡ numbers_at rows k → line_text target Entry row ≡ listed_line target rows k
   unfolding listed_line is_kind same_z
@@ -73,4 +65,4 @@ module _ (target : Edition) (rows : List ℤ) (k : ℕ) (z : ℤ) (p : z ≡ num
 
   pub listed-none : (z ≡ pos 7 → ⊥) → (z ≡ pos 8 → ⊥) → (z ≡ pos 9 → ⊥) → (z ≡ pos 10 → ⊥) → [] ≡ listed_line target rows k
   unfolding listed_line is_kind
-  listed-none a b c d = rw (← p, other z (pos 7) a, other z (pos 8) b, other z (pos 9) c, other z (pos 10) d)
+  listed-none a b c d = rw (← p, same_z-other z (pos 7) a, same_z-other z (pos 8) b, same_z-other z (pos 9) c, same_z-other z (pos 10) d)

@@ -11,7 +11,7 @@ use lib.ListN.{length, drop_of_length-le}
 use lib.Seq.{drop-cons}
 use Rattle.text.proofs.Cases.{true-or-false}
 use Rattle.signed.specs.Signed.{same_z}
-use Rattle.signed.proofs.Sign.{same_z-refl, same_z-true, same_z-false}
+use Rattle.signed.proofs.Sign.{same_z-refl, same_z-true, same_z-false, same_z-other}
 use Rattle.shape_text.specs.Written.{Run, differences_from, on_run, runs_of}
 use Rattle.shape_text.specs.Inside.{step_at, runs_from, RunAt}
 
@@ -54,13 +54,6 @@ starts-run d e (r ∷ rs) n = go (same_z e r.value)
     go true = rw (apart e d n)
     go false = rw (apart e d n)
 
-unlike : (a b : ℤ) → (a ≡ b → ⊥) → same_z a b ≡ false
-unlike a b n = go (same_z a b) refl
-  where
-    go : (t : Bool) → same_z a b ≡ t → same_z a b ≡ false
-    go true e = absurd (n (same_z-true a b e))
-    go false e = e
-
 -- ---- run_end: the run that starts at i goes on to before j
 pub record Running (zs : List ℤ) (i j : ℕ) : Type 0 where
   pub further : i < j
@@ -89,7 +82,7 @@ module _ {zs : List ℤ} {i j : ℕ} (r : Running zs i j) where
 
   pub running-other : j < length zs → (step_at zs j ≡ step_at zs i → ⊥) → RunAt zs i j
   running-other h n =
-      let e = unlike (step_at zs j) (step_at zs i) n in
+      let e = same_z-other (step_at zs j) (step_at zs i) n in
       record {
         further = r.further;
         inside = r.inside;

@@ -66,6 +66,13 @@ same_z-true (negsuc a) (negsuc b) e = ap negsuc (eqb-true a b e)
 pub same_z-false : (a b : ℤ) → same_z a b ≡ false → a ≡ b → ⊥
 same_z-false a b e q = let z : ◌≡◌ {A = Bool} true false = sym (same_z-refl a) ∙ ap (same_z a) q ∙ e in let y : ◌≡◌ {A = ℕ} 0 1 = cc in omega arith
 
+pub same_z-other : (a b : ℤ) → (a ≡ b → ⊥) → same_z a b ≡ false
+same_z-other a b n = go (same_z a b) refl
+  where
+    go : (t : Bool) → same_z a b ≡ t → same_z a b ≡ false
+    go true e = absurd (n (same_z-true a b e))
+    go false e = e
+
 -- the machine's test `a == b`, of two numbers and of a number and a literal
 pub same_bits : (a b : ℤ) → mag a < 2 ^ 63 → mag b < 2 ^ 63 → eqb (of_z w64 a) (of_z w64 b) ≡ same_z a b
 same_bits a b f g = go (same_z a b) refl
