@@ -28,6 +28,12 @@ use Rattle.blocks.proofs.Timeless.{no-class, entry-timeless, chain-untimed}
 max-shift : (a b c : ℕ) → max (max a b) c ≡ max a (max b c)
 max-shift a b c = omega arith
 
+pub max-zero : (a : ℕ) → max 0 a ≡ a
+max-zero a = omega arith
+
+max-none : (a : ℕ) {b : ℕ} → 0 ≡ b → a ≡ max a b
+max-none a e = omega (arith, e)
+
 module _ (q : Rasters) (rows : List ℤ) (n : ℕ) (samples : List ℤ) where
   -- ---- a reference of no class meets nothing that takes time
   pub reference-no-class : {class held : ℤ} (id : ℤ) → held ≡ class → same_z held (pos 0) ≡ true → 0 ≡ capped (reference_length q rows n samples class id)
@@ -60,6 +66,19 @@ module _ (q : Rasters) (rows : List ℤ) (n : ℕ) (samples : List ℤ) where
       chain-on l own rest next r o x s m =
           m ∙ rw (o, s, x) (capped-longer (entry_length q rows n samples k) (chain_length q rows n samples (left - 1) (next_entry rows n k)))
           ∙ ap capped (sym (ap (λ (j : ℕ). chain_length q rows n samples j k) more ∙ on (left - 1) l))
+
+      -- a walk over a chain: the whole is the longest so far or of what is left
+      pub walk-past : (longest whole : ℕ) → n ≤ k → max longest (capped (chain_length q rows n samples left k)) ≡ whole → longest ≡ whole
+      walk-past longest whole l w = max-none longest (chain-past l) ∙ w
+
+      pub walk-on : k < n → (own next longest r whole : ℕ) → own ≡ capped (entry_length q rows n samples k) → next ≡ next_entry rows n k → r ≡ max longest own
+          → max longest (capped (chain_length q rows n samples left k)) ≡ whole → max r (capped (chain_length q rows n samples (left - 1) next)) ≡ whole
+      walk-on l own next longest r whole o x s w =
+          let rest : ℕ = capped (chain_length q rows n samples (left - 1) next) in
+          ap (λ (m : ℕ). max m rest) s ∙ max-shift longest own rest ∙ ap (max longest) (chain-on l own rest next (max own rest) o x refl refl) ∙ w
+
+    pub walk-out : (longest whole : ℕ) → left ≡ 0 → max longest (capped (chain_length q rows n samples left k)) ≡ whole → longest ≡ whole
+    walk-out longest whole e w = max-none longest (chain-out e) ∙ w
 
   -- ---- what a reference meets, for a class and an ID as they were handed on
   module _ {class id held ref : ℤ} (p : held ≡ class) (r : ref ≡ id) where

@@ -61,12 +61,16 @@ fn entry_length(rasters: Rasters, rows: Rows, samples: &[i64], k: usize) -> Nano
 fn chain_length(rasters: Rasters, rows: Rows, samples: &[i64], k: usize, left: usize) -> Nanos
     ensures { result.0 ≡ capped (chain_length rasters rows.entry.numbers.now rows.entry.n samples.now left k) }
 {
-    if left == 0 || rows.n <= k {
-        return Nanos(0);
+    let mut longest = Nanos(0);
+    let mut at = k;
+    for _counted in 0..left {
+        if rows.n <= at {
+            return longest;
+        }
+        longest = longest.longer(entry_length(rasters, rows, samples, at));
+        at = chains::next_entry(rows, at);
     }
-    let own = entry_length(rasters, rows, samples, k);
-    let next = chains::next_entry(rows, k);
-    own.longer(chain_length(rasters, rows, samples, next, left - 1))
+    longest
 }
 
 // How long that lasts which a number of this class refers to and which is row k: an event, or the first entry of a chain, which is followed where

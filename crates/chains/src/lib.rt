@@ -18,11 +18,14 @@ pub fn next_entry(rows: Rows, k: usize) -> usize
 fn exceeds(rows: Rows, k: usize, left: usize) -> bool
     ensures { result ≡ exceeds_of rows.entry.numbers.now rows.entry.n left k }
 {
-    if left == 0 {
-        return true;
+    let mut at = k;
+    for _counted in 0..left {
+        at = next_entry(rows, at);
+        if rows.n <= at {
+            return false;
+        }
     }
-    let next = next_entry(rows, k);
-    next < rows.n && exceeds(rows, next, left - 1)
+    true
 }
 
 // Is row k an entry whose chain is over 256 entries?

@@ -19,6 +19,10 @@ pub struct Rows<'a> {
 fn group_of(n: usize) -> usize
     ensures { result ≡ group_of n }
 {
+    // Most tables are no longer, and a division takes longer than to ask.
+    if n < 65535 {
+        return 1;
+    }
     (n / 65535).min(1000000) + 1
 }
 
@@ -128,44 +132,53 @@ pub fn note_rows(hints: &mut [u16], rows: &[i64], n: usize)
 }
 
 // The row of this class with this ID among so many rows from a row on; n if none is.
-fn row_from(rows: Rows, from: usize, size: usize, class: i64, id: i64) -> usize
-    ensures { result < rows.entry.n → is_row_of rows.entry.numbers.now class id result ≡ true }
+fn row_from(rows: &[i64], n: usize, from: usize, size: usize, class: i64, id: i64) -> usize
+    ensures { result < n → is_row_of rows.now class id result ≡ true }
 {
-    for k in from..rows.n.min(from.saturating_add(size)) {
-        if tables::is_row_of(rows.numbers, k, class, id) {
+    let mut k = from;
+    for _tried in 0..size {
+        if n <= k {
+            return n;
+        }
+        if tables::is_row_of(rows, k, class, id) {
             return k;
         }
+        k += 1;
     }
-    rows.n
+    n
 }
 
 // The row of this class with this ID in the group of a hint; n if none is.
-fn row_in(rows: Rows, base: usize, mark: u16, class: i64, id: i64) -> usize
+fn row_in(rows: &[i64], n: usize, base: usize, mark: u16, class: i64, id: i64) -> usize
     requires { (1 ≤ mark) × (base ≤ 16776960) }
-    ensures { result < rows.entry.n → is_row_of rows.entry.numbers.now class id result ≡ true }
+    ensures { result < n → is_row_of rows.now class id result ≡ true }
 {
-    let size = group_of(rows.n.saturating_sub(base));
+    let size = group_of(n.saturating_sub(base));
     let from = usize::from(mark - 1) * size + base;
-    row_from(rows, from, size, class, id)
+    row_from(rows, n, from, size, class, id)
 }
 
 // The row of this class with this ID by its hint, which stands at its home or up to 63 places behind; n if no hint leads there.
-fn hinted(rows: Rows, class: i64, id: i64) -> usize
-    ensures { result < rows.entry.n → is_row_of rows.entry.numbers.now class id result ≡ true }
+fn hinted(rows: &[i64], hints: &[u16], n: usize, class: i64, id: i64) -> usize
+    ensures { result < n → is_row_of rows.now class id result ≡ true }
 {
-    let base = base_in(rows.hints);
-    let home = home_of(rows.hints.len(), class, id);
-    for at in home..rows.hints.len().min(home.saturating_add(64)) {
-        let mark = rows.hints[at];
-        if mark == 0 {
-            return rows.n;
+    let base = base_in(hints);
+    let mut at = home_of(hints.len(), class, id);
+    for _tried in 0..64usize {
+        if hints.len() <= at {
+            return n;
         }
-        let k = row_in(rows, base, mark, class, id);
-        if k < rows.n {
+        let mark = hints[at];
+        if mark == 0 {
+            return n;
+        }
+        let k = row_in(rows, n, base, mark, class, id);
+        if k < n {
             return k;
         }
+        at += 1;
     }
-    rows.n
+    n
 }
 
 impl<'a> Rows<'a> {
@@ -180,7 +193,7 @@ impl<'a> Rows<'a> {
     pub fn find_once(self, class: i64, id: i64) -> usize
         ensures { result ≡ first_row self.entry.numbers.now self.entry.n class id }
     {
-        let k = hinted(self, class, id);
+        let k = hinted(self.numbers, self.hints, self.n, class, id);
         if k < self.n {
             return k;
         }
