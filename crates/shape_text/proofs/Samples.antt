@@ -2,18 +2,17 @@
 use Prim.Native.Nat.{ℕ, zero, suc, ◌-◌, ◌≤◌, ◌<◌, ◌^◌}
 use mathlib.Core.Bool.{true, ◌&&◌}
 use mathlib.Core.List.{List, [], ◌∷◌}
-use mathlib.Core.Path.{◌≡◌, refl, sym, ap₂}
+use mathlib.Core.Path.{◌≡◌, refl, sym, ap₂, ◌∙◌}
 use native.Mathlib.Omega.{arith}
 use lib.Dec.{leb}
 use lib.IntN.{ℤ, pos, nat_abs, ◌-ℤ◌, +ℤ_idr}
+use Rattle.std.proofs.Common.{Option, Some}
 use Rattle.std.specs.List.{list_all}
-use mir.Syntax.{w64}
-use mir.Val.{SFits}
-use Rattle.signed.proofs.Machine.{sfits-abs}
 use lib.ListN.{length, get_or}
 use borrow.Author.Tests.{leb-true}
 use Rattle.text.proofs.Cases.{and_both}
-use Rattle.signed.proofs.Sign.{abs_diff}
+use Rattle.signed.specs.Signed.{within}
+use Rattle.signed.proofs.Sign.{abs_diff, within-value}
 use Rattle.shape_text.specs.Written.{all_within, is_writable}
 use Rattle.shape_text.specs.Inside.{step_at}
 
@@ -39,13 +38,15 @@ within-at (z ∷ zs) (suc i) e h = within-at zs i (and_both (leb (nat_abs z) (10
 pub step-first : (zs : List ℤ) (i : ℕ) → i ≡ 0 → get_or zs i (pos 0) ≡ step_at zs i
 step-first zs i e = rw e (sym (+ℤ_idr (get_or zs 0 (pos 0))))
 
--- a difference of two samples is within ±200,000
-pub step-later : (zs : List ℤ) (i : ℕ) {a b : ℤ} → all_within zs ≡ true → i < length zs → (i ≡ 0 → ⊥)
-    → a ≡ get_or zs i (pos 0) → b ≡ get_or zs (i - 1) (pos 0) → (a -ℤ b ≡ step_at zs i) × SFits w64 (a -ℤ b)
-step-later zs zero w h n p q = absurd (n refl)
-step-later zs (suc i) {a} {b} w h n p q =
+-- what `minus` answers here: a difference of two samples is within ±200,000
+pub step-later : (zs : List ℤ) (i : ℕ) {r : Option ℤ} {a b : ℤ} → all_within zs ≡ true → i < length zs → (i ≡ 0 → ⊥)
+    → a ≡ get_or zs i (pos 0) → b ≡ get_or zs (i - 1) (pos 0) → r ≡ within 200000000000000000 (a -ℤ b) → r ≡ Some (step_at zs i)
+step-later zs zero w h n p q e = absurd (n refl)
+step-later zs (suc i) w h n p q e =
     let m : suc i - 1 ≡ i = omega arith in
     let x = within-at zs (suc i) w h in
     let y = within-at zs i w (omega arith) in
-    let e : a -ℤ b ≡ step_at zs (suc i) = ap₂ (λ (x y : ℤ). x -ℤ y) p (rw m at q) in
-    (e, rw e (sfits-abs (step_at zs (suc i)) (omega (arith, abs_diff (get_or zs (suc i) (pos 0)) (get_or zs i (pos 0))))))
+    let k : nat_abs (step_at zs (suc i)) ≤ 200000000000000000 = omega (arith, abs_diff (get_or zs (suc i) (pos 0)) (get_or zs i (pos 0))) in
+    e
+    ∙ ap₂ (λ (x y : ℤ). within 200000000000000000 (x -ℤ y)) p (rw m at q)
+    ∙ within-value 200000000000000000 (step_at zs (suc i)) k (omega arith)

@@ -66,7 +66,7 @@ fn step(samples: &[i64], i: usize) -> i64
     if i == 0 {
         return z;
     }
-    z - samples[i - 1]
+    signed::minus(z, samples[i - 1], 2 * FARTHEST).unwrap_or(0)
 }
 
 // The place behind the longest run of equal differences that starts at i.
